@@ -7,7 +7,7 @@ use Rattle.ame_print.specs.Printer.{spelling_of}
 use Rattle.ame_weak.specs.Weak.{Weak, weak_after, weak_run}
 use Rattle.ame_weak.specs.View.{weak_of}
 use Rattle.ame_weak.specs.declared.tries.Try.{Try}
-use Rattle.ame_why.specs.Page.{column}
+use Rattle.ame_page.specs.Columns.{column}
 use Rattle.ame_labels.specs.Stepped.{kind_of, reduced_term}
 use Rattle.ame_labels.specs.WeakOrder.{touched_at, before_label, behind_label, weak_row, taken_back_row, weak_heading, entries_after, NoneIsNext, TellsLabels}
 use Rattle.ame_labels.specs.Orders.{TellsOne, TellsTries, TellsAll}
@@ -36,8 +36,8 @@ try_told entry t start a b c d e is_a is_b is_c is_d is_e =
 pub told_row : (index : ℕ) (label : Label) (old new : Order) (entry : ℕ) (touched : Option ℕ) (page : List ℕ) → new.names ≡ old.names → new.numbers ≡ old.numbers
     → weak_after (weak_of old.state) label ≡ Some (weak_of new.state) → entry ≡ get_or old.numbers.items index 0
     → touched ≡ touched_at (kind_of label) (reduced_term (weak_of old.state).state label)
-    → page ≡ old.page.items ++ before_label (index + 1) entry (weak_of old.state) label
-    → new.page.items ≡ page ++ behind_label (spelling_of old.names.items) (weak_of new.state) touched
+    → page ≡ old.page ++ before_label (index + 1) entry (weak_of old.state) label
+    → new.page ≡ page ++ behind_label (spelling_of old.names.items) (weak_of new.state) touched
     → new.entries ≡ entries_after label entry old.entries → TellsOne index label old new
 told_row index label old new entry touched page names numbers legal is place first second entries =
     let ns = spelling_of old.names.items in
@@ -50,8 +50,8 @@ told_row index label old new entry touched page names numbers legal is place fir
       page =
           second ∙ ap (λ (l : Option ℕ). page ++ behind_label ns (weak_of new.state) l) place
           ∙ ap (λ (xs : List ℕ). xs ++ behind_label ns (weak_of new.state) place_told)
-          (first ∙ ap (λ (n : ℕ). old.page.items ++ before_label (index + 1) n (weak_of old.state) label) is)
-          ∙ append_assoc old.page.items told (behind_label ns (weak_of new.state) place_told);
+          (first ∙ ap (λ (n : ℕ). old.page ++ before_label (index + 1) n (weak_of old.state) label) is)
+          ∙ append_assoc old.page told (behind_label ns (weak_of new.state) place_told);
       entries = entries ∙ ap (λ (n : ℕ). entries_after label n old.entries) is;
     }
 
@@ -61,18 +61,18 @@ no_tries n tries o = record { names = refl; numbers = refl; state = refl; tells 
 -- one row more
 pub tries_more : (n : ℕ) (tries rest others : List Try) (t : Try) (first old new : Order) → TellsTries n tries rest first old → rest ≡ t ∷ others → t.after ≡ n
     → new.names ≡ old.names → new.numbers ≡ old.numbers → new.state ≡ old.state → new.entries ≡ old.entries + 1
-    → new.page.items ≡ old.page.items ++ taken_back_row new.entries t → TellsTries n tries others first new
+    → new.page ≡ old.page ++ taken_back_row new.entries t → TellsTries n tries others first new
 tries_more n tries rest others t first old new a parts after names numbers state entries page = record {
   names = names ∙ a.names;
   numbers = numbers ∙ a.numbers;
   state = state ∙ a.state;
   tells = λ ns ms start w all labels size told.
-      let before : TellsLabels ns ms start all old.page.items labels (t ∷ others) old.entries w =
-      subst (λ (ts : List Try). TellsLabels ns ms start all old.page.items labels ts old.entries w) parts (a.tells ns ms start w all labels size told) in
-      let row : new.page.items ≡ old.page.items ++ taken_back_row (old.entries + 1) t = page ∙ ap (λ (m : ℕ). old.page.items ++ taken_back_row m t) entries in
+      let before : TellsLabels ns ms start all old.page labels (t ∷ others) old.entries w =
+      subst (λ (ts : List Try). TellsLabels ns ms start all old.page labels ts old.entries w) parts (a.tells ns ms start w all labels size told) in
+      let row : new.page ≡ old.page ++ taken_back_row (old.entries + 1) t = page ∙ ap (λ (m : ℕ). old.page ++ taken_back_row m t) entries in
       subst (λ (xs : List ℕ). TellsLabels ns ms start all xs labels others new.entries w) (sym row)
-      (subst (λ (m : ℕ). TellsLabels ns ms start all (old.page.items ++ taken_back_row (old.entries + 1) t) labels others m w) (sym entries)
-      (TellsLabels.tried old.page.items labels t others old.entries w before (after ∙ sym size)));
+      (subst (λ (m : ℕ). TellsLabels ns ms start all (old.page ++ taken_back_row (old.entries + 1) t) labels others m w) (sym entries)
+      (TellsLabels.tried old.page labels t others old.entries w before (after ∙ sym size)));
 }
 
 -- Labels behind others are made in the weak state to which those lead.
@@ -101,9 +101,9 @@ pub record IsToldTo (labels : List Label) (tries : List Try) (k : ℕ) (rest : L
   pub within : k ≤ length labels
   pub names : o.names ≡ first.names
   pub numbers : o.numbers ≡ first.numbers
-  pub told : TellsLabels (spelling_of first.names.items) first.numbers.items (weak_of first.state) tries o.page.items (take k labels) rest o.entries (weak_of o.state)
+  pub told : TellsLabels (spelling_of first.names.items) first.numbers.items (weak_of first.state) tries o.page (take k labels) rest o.entries (weak_of o.state)
 
-pub told_none : (labels : List Label) (tries : List Try) (o : Order) → o.page.items ≡ weak_heading → o.entries ≡ 0 → IsToldTo labels tries 0 tries o o
+pub told_none : (labels : List Label) (tries : List Try) (o : Order) → o.page ≡ weak_heading → o.entries ≡ 0 → IsToldTo labels tries 0 tries o o
 told_none labels tries o empty no_entries =
     let ns = spelling_of o.names.items in
     let ms = o.numbers.items in
@@ -128,7 +128,7 @@ told_tries labels tries k rest later first old new a b =
       names = b.names ∙ a.names;
       numbers = b.numbers ∙ a.numbers;
       told =
-          subst (λ (w : Weak). TellsLabels ns ms start tries new.page.items (take k labels) later new.entries w) (sym (ap weak_of b.state))
+          subst (λ (w : Weak). TellsLabels ns ms start tries new.page (take k labels) later new.entries w) (sym (ap weak_of b.state))
           (b.tells ns ms start (weak_of old.state) tries (take k labels) (length-take-le k labels a.within) a.told);
     }
 
@@ -143,11 +143,11 @@ told_one labels tries k d rest first old new within a next b =
     let v = weak_of old.state in
     let u = weak_of new.state in
     let size : length front ≡ k = length-take-le k labels (omega arith) in
-    let row : new.page.items ≡ old.page.items ++ weak_row ns (length front + 1) (get_or ms (length front) 0) v label u =
+    let row : new.page ≡ old.page ++ weak_row ns (length front + 1) (get_or ms (length front) 0) v label u =
     b.page
-    ∙ ap (λ (xs : List (List ℕ)). old.page.items ++ weak_row xs (k + 1) (get_or old.numbers.items k 0) v label u) (ap (λ names. spelling_of names.items) a.names)
-    ∙ ap (λ (xs : List ℕ). old.page.items ++ weak_row ns (k + 1) (get_or xs k 0) v label u) (ap (λ numbers. numbers.items) a.numbers)
-    ∙ ap (λ (n : ℕ). old.page.items ++ weak_row ns (n + 1) (get_or ms n 0) v label u) (sym size) in
+    ∙ ap (λ (xs : List (List ℕ)). old.page ++ weak_row xs (k + 1) (get_or old.numbers.items k 0) v label u) (ap (λ names. spelling_of names.items) a.names)
+    ∙ ap (λ (xs : List ℕ). old.page ++ weak_row ns (k + 1) (get_or xs k 0) v label u) (ap (λ numbers. numbers.items) a.numbers)
+    ∙ ap (λ (n : ℕ). old.page ++ weak_row ns (n + 1) (get_or ms n 0) v label u) (sym size) in
     let count : new.entries ≡ entries_after label (get_or ms (length front) 0) old.entries =
     b.entries
     ∙ ap (λ (xs : List ℕ). entries_after label (get_or xs k 0) old.entries) (ap (λ numbers. numbers.items) a.numbers)
@@ -157,11 +157,11 @@ told_one labels tries k d rest first old new within a next b =
       names = b.names ∙ a.names;
       numbers = b.numbers ∙ a.numbers;
       told =
-          subst (λ (ls : List Label). TellsLabels ns ms start tries new.page.items ls rest new.entries u) (sym (take_more labels k d within))
+          subst (λ (ls : List Label). TellsLabels ns ms start tries new.page ls rest new.entries u) (sym (take_more labels k d within))
           (subst (λ (xs : List ℕ). TellsLabels ns ms start tries xs (front ++ label ∷ []) rest new.entries u) (sym row)
-          (subst (λ (n : ℕ). TellsLabels ns ms start tries (old.page.items ++ weak_row ns (length front + 1) (get_or ms (length front) 0) v label u)
+          (subst (λ (n : ℕ). TellsLabels ns ms start tries (old.page ++ weak_row ns (length front + 1) (get_or ms (length front) 0) v label u)
           (front ++ label ∷ []) rest n u) (sym count)
-          (TellsLabels.told old.page.items front rest old.entries v u label a.told (subst (λ (n : ℕ). NoneIsNext n rest) (sym size) next) b.legal)));
+          (TellsLabels.told old.page front rest old.entries v u label a.told (subst (λ (n : ℕ). NoneIsNext n rest) (sym size) next) b.legal)));
     }
 
 pub told_all : (labels : List Label) (tries : List Try) (k : ℕ) (rest later : List Try) (first old new : Order) → length labels ≤ k
@@ -175,7 +175,7 @@ told_all labels tries k rest later first old new all a b next =
       entries = new.entries;
       later = later;
       told =
-          subst (λ (ls : List Label). TellsLabels (spelling_of first.names.items) first.numbers.items (weak_of first.state) tries new.page.items ls later new.entries
+          subst (λ (ls : List Label). TellsLabels (spelling_of first.names.items) first.numbers.items (weak_of first.state) tries new.page ls later new.entries
           (weak_of new.state)) (take_all (length labels) labels (omega arith)) end.told;
       complete = next;
     }
@@ -188,6 +188,6 @@ refused_there labels tries k d rest first o within a refused =
     let front = take k labels in
     let behind = drop (k + 1) labels in
     let w = weak_of first.state in
-    let leads = leads_there (spelling_of first.names.items) first.numbers.items w tries o.page.items front rest o.entries (weak_of o.state) a.told in
+    let leads = leads_there (spelling_of first.names.items) first.numbers.items w tries o.page front rest o.entries (weak_of o.state) a.told in
     ap (weak_run w) (sym (take-append-drop k labels) ∙ ap (λ (ls : List Label). front ++ ls) (drop_more labels k d within)) ∙ runs_on w front (label ∷ behind)
     ∙ ap (option_and_then (λ (x : Weak). weak_run x (label ∷ behind))) leads ∙ ap (option_and_then (λ (x : Weak). weak_run x behind)) refused

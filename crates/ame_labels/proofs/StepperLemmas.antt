@@ -1,5 +1,5 @@
 -- The labels of entries, and their rows.
-use Rattle.std.proofs.Common.{◌≡◌, ℕ, suc, ◌+◌, ◌<◌, ◌==◌, ℤ, Bool, true, false, not, cond, List, [], ◌∷◌, ◌++◌, map, length, take, get_or, Vec, Global, Option, Some, None, refl, sym, ap, ◌∙◌, subst, arith, append_assoc, append-nil, length-append, eqb-true}
+use Rattle.std.proofs.Common.{◌≡◌, ℕ, suc, ◌+◌, ◌<◌, ◌==◌, ℤ, Bool, true, false, not, cond, List, [], ◌∷◌, ◌++◌, map, length, take, get_or, Option, Some, None, refl, sym, ap, ◌∙◌, subst, arith, append_assoc, append-nil, length-append, eqb-true}
 use Rattle.std.specs.BTreeMap.{is_at}
 use Rattle.std.specs.BTreeSet.{BTreeSet, contains}
 use Rattle.std.specs.List.{list_any}
@@ -64,7 +64,7 @@ adds-then xs ys a b c x y = record {
   rows =
       rows-append (spelling_of a.names.items) (state_of a.state) (state_of b.state) xs x.part x.rows ys y.part (state_of c.state)
       (subst (λ (ns : List Text). Rows ns (state_of b.state) ys y.part (state_of c.state)) x.names y.rows);
-  page = y.page ∙ ap (λ (z : List ℕ). z ++ y.part) x.page ∙ append_assoc a.page.items x.part y.part;
+  page = y.page ∙ ap (λ (z : List ℕ). z ++ y.part) x.page ∙ append_assoc a.page x.part y.part;
 }
 
 made_by-append : (xs ys : List StepKind) → made_by (xs ++ ys) ≡ made_by xs ++ made_by ys
@@ -94,7 +94,7 @@ steps-begin inside fresh s = record {
   count = refl;
   made = refl;
   silent = tt;
-  adds = record { names = refl; part = []; rows = Rows.none; page = sym (append-nil s.page.items) };
+  adds = record { names = refl; part = []; rows = Rows.none; page = sym (append-nil s.page) };
   kept = refl;
 }
 
@@ -197,7 +197,7 @@ module _ (r : Replayed) (entry : Entry) (old : Stepper) (stands : IsAt r old) wh
 
   pub makes-note : is_note entry.kind ≡ true → MakesLabels r entry old old
   makes-note note =
-      makes-labels old [] r (record { names = refl; part = []; rows = Rows.none; page = sym (append-nil old.page.items) }) (HasLabels.note note) stands.state stands.inside
+      makes-labels old [] r (record { names = refl; part = []; rows = Rows.none; page = sym (append-nil old.page) }) (HasLabels.note note) stands.state stands.inside
 
   module _ (kind : entry.kind ≡ EntryKind.Ran) (silent : entry.answer ≡ None) (out : contains nat_cmp old.inside entry.number ≡ false) where
     outside : is_inside r entry.number ≡ false
@@ -218,7 +218,7 @@ module _ (r : Replayed) (entry : Entry) (old : Stepper) (stands : IsAt r old) wh
         → MakesLabels r entry old (record old { inside = inside })
     makes-arrival inside term steps made idle there refused update =
         makes-labels (record old { inside = inside }) [] (entering r entry.number r.state)
-        (record { names = refl; part = []; rows = Rows.none; page = sym (append-nil old.page.items) })
+        (record { names = refl; part = []; rows = Rows.none; page = sym (append-nil old.page) })
         (ran 0 [] [] (entering r entry.number r.state) steps made
         (Unfolds.arrives outside (subst (λ (s : State). is_at_unprotected entry.number s ≡ true) stands.state (stays-outside (state_of old.state) entry.number term idle
         (sym (ap (λ (o : Option ℕ). at (but o (state_of old.state).members) entry.number) idle) ∙ there) refused))))
@@ -334,7 +334,7 @@ pub takes-made : (old new : Stepper) (label : Label) (before : List ℕ) (change
     → after (state_of old.state) label ≡ Some (state_of new.state)
     → before ≡ label_words label ++ shown_term (spelling_of old.names.items) (reduced_term (state_of old.state) label)
     → changed ≡ changed_location (kind_of label) (reduced_term (state_of old.state) label)
-    → new.page.items ≡ old.page.items ++ (before ++ stored_words (spelling_of new.names.items) (state_of new.state) changed
+    → new.page ≡ old.page ++ (before ++ stored_words (spelling_of new.names.items) (state_of new.state) changed
     ++ started_words (state_of old.state).next (kind_of label) ++ codes "\n")
     → Takes label true old new
 takes-made old new label before changed names inside legal shown told page = record {
@@ -344,7 +344,7 @@ takes-made old new label before changed names inside legal shown told page = rec
     legal = legal;
     page =
         page
-        ∙ ap (λ (row : List ℕ). old.page.items ++ row)
+        ∙ ap (λ (row : List ℕ). old.page ++ row)
         (row_by (spelling_of old.names.items) (state_of old.state) (state_of new.state) label (spelling_of new.names.items) before changed names shown told);
   };
   refused = λ e. cc;
@@ -367,12 +367,12 @@ none-by-test (Some x) e = cc
 -- the entries so far are shown
 pub record ShowsSoFar (names : List Text) (start : Replayed) (entries : List Entry) (s : Stepper) : Type 0 where
   pub led : Replayed
-  pub shows : ShowsSteps names start entries s.page.items led
+  pub shows : ShowsSteps names start entries s.page led
   pub stands : IsAt led s
   pub spelled : spelling_of s.names.items ≡ names
 
 pub shows-begin : (names : List Text) (program : Tree) (s : Stepper) → state_of s.state ≡ start program → s.inside.keys ≡ []
-    → s.page.items ≡ [] → spelling_of s.names.items ≡ names → ShowsSoFar names (begun_at program) [] s
+    → s.page ≡ [] → spelling_of s.names.items ≡ names → ShowsSoFar names (begun_at program) [] s
 shows-begin names program s state nothing none same = record {
   led = begun_at program;
   shows = subst (λ (z : List ℕ). ShowsSteps names (begun_at program) [] z (begun_at program)) (sym none) ShowsSteps.none;
@@ -381,7 +381,7 @@ shows-begin names program s state nothing none same = record {
 }
 
 pub shows-more : (names : List Text) (start : Replayed) (entries : List Entry) (i : ℕ) → i < length entries → (entry : Entry) → entry ≡ get_or entries i entry
-    → (s : Stepper) (page : Vec ℕ Global) (new : Stepper) → ShowsSoFar names start (take i entries) s → page.items ≡ s.page.items ++ entry_heading (i + 1) entry.number
+    → (s : Stepper) (page : List ℕ) (new : Stepper) → ShowsSoFar names start (take i entries) s → page ≡ s.page ++ entry_heading (i + 1) entry.number
     → MakesEntry entry (record s { page = page }) new → ShowsSoFar names start (take (i + 1) entries) new
 shows-more names start entries i below entry is s page new so_far headed makes =
     let m = makes so_far.led (record { state = so_far.stands.state; inside = so_far.stands.inside }) in
@@ -390,15 +390,15 @@ shows-more names start entries i below entry is s page new so_far headed makes =
     let long : length (take i entries) ≡ i = omega (arith, length-take i entries) in
     let rows : Rows names so_far.led.state m.labels m.part m.led.state =
     subst (λ (ns : List Text). Rows ns so_far.led.state m.labels m.part m.led.state) so_far.spelled m.rows in
-    let whole : new.page.items ≡ s.page.items ++ (entry_heading (length (take i entries) + 1) entry.number ++ m.part) =
-    m.page ∙ ap (λ (z : List ℕ). z ++ m.part) headed ∙ append_assoc s.page.items (entry_heading (i + 1) entry.number) m.part
-    ∙ ap (λ (k : ℕ). s.page.items ++ (entry_heading (k + 1) entry.number ++ m.part)) (sym long) in
+    let whole : new.page ≡ s.page ++ (entry_heading (length (take i entries) + 1) entry.number ++ m.part) =
+    m.page ∙ ap (λ (z : List ℕ). z ++ m.part) headed ∙ append_assoc s.page (entry_heading (i + 1) entry.number) m.part
+    ∙ ap (λ (k : ℕ). s.page ++ (entry_heading (k + 1) entry.number ++ m.part)) (sym long) in
     record {
       led = m.led;
       shows =
-          subst (λ (es : List Entry). ShowsSteps names start es new.page.items m.led) (sym more)
+          subst (λ (es : List Entry). ShowsSteps names start es new.page m.led) (sym more)
           (subst (λ (z : List ℕ). ShowsSteps names start (take i entries ++ entry ∷ []) z m.led) (sym whole)
-          (ShowsSteps.entry (take i entries) s.page.items so_far.led m.led entry m.labels m.part so_far.shows m.has rows));
+          (ShowsSteps.entry (take i entries) s.page so_far.led m.led entry m.labels m.part so_far.shows m.has rows));
       stands = m.stands;
       spelled = m.names ∙ so_far.spelled;
     }

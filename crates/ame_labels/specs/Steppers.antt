@@ -20,20 +20,20 @@ pub record Stays (old new : Stepper) : Type 0 where
   pub names : spelling_of new.names.items ≡ spelling_of old.names.items
   pub inside : new.inside ≡ old.inside
   pub state : state_of new.state ≡ state_of old.state
-  pub page : new.page.items ≡ old.page.items
+  pub page : new.page ≡ old.page
 
 -- a legal label was made, and its row added
 pub record Adds (label : Label) (old new : Stepper) : Type 0 where
   pub names : spelling_of new.names.items ≡ spelling_of old.names.items
   pub legal : after (state_of old.state) label ≡ Some (state_of new.state)
-  pub page : new.page.items ≡ old.page.items ++ label_row (spelling_of old.names.items) (state_of old.state) label (state_of new.state)
+  pub page : new.page ≡ old.page ++ label_row (spelling_of old.names.items) (state_of old.state) label (state_of new.state)
 
 -- so were these labels, one after another
 pub record AddsAll (labels : List Label) (old new : Stepper) : Type 0 where
   pub names : spelling_of new.names.items ≡ spelling_of old.names.items
   pub part : List ℕ
   pub rows : Rows (spelling_of old.names.items) (state_of old.state) labels part (state_of new.state)
-  pub page : new.page.items ≡ old.page.items ++ part
+  pub page : new.page ≡ old.page ++ part
 
 -- a label was made, or it isn't legal
 pub record Takes (label : Label) (is_made : Bool) (old new : Stepper) : Type 0 where
@@ -91,7 +91,7 @@ pub record MakesLabels (r : Replayed) (entry : Entry) (old new : Stepper) : Type
   pub has : HasLabels r entry labels led
   pub part : List ℕ
   pub rows : Rows (spelling_of old.names.items) r.state labels part led.state
-  pub page : new.page.items ≡ old.page.items ++ part
+  pub page : new.page ≡ old.page ++ part
   pub names : spelling_of new.names.items ≡ spelling_of old.names.items
   pub stands : IsAt led new
 

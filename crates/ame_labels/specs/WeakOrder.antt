@@ -11,7 +11,7 @@ use Rattle.ame_term.specs.declared.semantics.StepKind.{StepKind}
 use Rattle.ame_term.specs.declared.semantics.Label.{Label}
 use Rattle.ame_weak.specs.Weak.{Weak, weak_after}
 use Rattle.ame_weak.specs.declared.tries.Try.{Try}
-use Rattle.ame_why.specs.Page.{column}
+use Rattle.ame_page.specs.Columns.{column}
 use Rattle.ame_labels.specs.Stepped.{kind_of, reduced_term, changed_location, held_text}
 
 -- Locations

@@ -9,10 +9,10 @@ ghost use Rattle.ame_labels.specs.Stepped as spec;
 ghost use Rattle.ame_labels.specs.Stepped.{label_words, step_words, shown_term, target_of, stored_words, started_words};
 
 use crate::marked::marked_text;
+use ame_page::Page;
 use ame_print::print_term;
 use ame_strong::StrongState;
 use ame_term::{Label, Loc, NoMemory, Split, StepKind, Term, Value, copy_value, split};
-use ame_why::page::{append, append_decimal};
 use std::alloc::Global;
 
 /// The reduction that a label makes.
@@ -47,14 +47,14 @@ pub(crate) fn row_before(
         ≡ label_words label ++ shown_term (spelling_of names.old.items) (option_map (λ t. tree_of t.now) term.entry)) }
     ensures names { OnOk result (spelling_of names.new.items ≡ spelling_of names.old.items) }
 {
-    let mut row = Vec::new(alloc);
-    append(&mut row, label_words(label))?;
+    let mut row = Page::new(alloc);
+    row.add(label_words(label))?;
     let Some(term) = term else {
-        return Ok(row);
+        return Ok(row.into_bytes());
     };
     let text = marked_text(alloc, names, term)?;
-    append(&mut row, &text)?;
-    Ok(row)
+    row.add(&text)?;
+    Ok(row.into_bytes())
 }
 
 /// The location whose value a label changes.
@@ -97,23 +97,23 @@ fn written_at(term: &Term) -> Option<Loc>
 
 /// Adds the line before the rows of an entry.
 pub(crate) fn append_entry_heading(
-    page: &mut Vec<u8>,
+    page: &mut Page,
     number: u64,
     member: u64,
 ) -> Result<(), NoMemory>
-    ensures { OnOk result (page.new.items ≡ page.old.items ++ spec.entry_heading number member) }
+    ensures { OnOk result (page.new ≡ page.old ++ spec.entry_heading number member) }
 {
-    append(page, b"entry ")?;
-    append_decimal(page, number)?;
-    append(page, b", fragment ")?;
-    append_decimal(page, member)?;
-    append(page, b"\n")
+    page.add(b"entry ")?;
+    page.add_number(number)?;
+    page.add(b", fragment ")?;
+    page.add_number(member)?;
+    page.add(b"\n")
 }
 
 /// Adds the row of a label that led to this state, where it changed a location or started a member with this number.
 pub(crate) fn append_row(
     alloc: Global,
-    page: &mut Vec<u8>,
+    page: &mut Page,
     names: &[Vec<u8>],
     state: &StrongState,
     before: &[u8],
@@ -121,34 +121,34 @@ pub(crate) fn append_row(
     member: u64,
     label: Label,
 ) -> Result<(), NoMemory>
-    ensures { OnOk result (page.new.items ≡ page.old.items ++ (before.now
+    ensures { OnOk result (page.new ≡ page.old ++ (before.now
         ++ stored_words (spelling_of names.now) (state_of state.now) (option_map (λ l. l.0) changed)
         ++ started_words member (spec.kind_of label) ++ codes "\n")) }
 {
-    append(page, before)?;
+    page.add(before)?;
     append_stored(alloc, page, names, state, changed)?;
     append_started(page, member, label)?;
-    append(page, b"\n")
+    page.add(b"\n")
 }
 
 /// Adds what a location holds, if one is told.
 fn append_stored(
     alloc: Global,
-    page: &mut Vec<u8>,
+    page: &mut Page,
     names: &[Vec<u8>],
     state: &StrongState,
     changed: Option<Loc>,
 ) -> Result<(), NoMemory>
-    ensures { OnOk result (page.new.items ≡ page.old.items ++ stored_words (spelling_of names.now) (state_of state.now) (option_map (λ l. l.0) changed)) }
+    ensures { OnOk result (page.new ≡ page.old ++ stored_words (spelling_of names.now) (state_of state.now) (option_map (λ l. l.0) changed)) }
 {
     let Some(location) = changed else {
         return Ok(());
     };
     let held = held_text(alloc, names, state.stored(location))?;
-    append(page, b"  ; @")?;
-    append_decimal(page, u64::from(location.0))?;
-    append(page, b" = ")?;
-    append(page, &held)
+    page.add(b"  ; @")?;
+    page.add_number(u64::from(location.0))?;
+    page.add(b" = ")?;
+    page.add(&held)
 }
 
 /// The text of a value; nothing where there is none.
@@ -166,13 +166,13 @@ pub(crate) fn held_text(
 }
 
 /// Adds which member a label starts, if it starts one.
-fn append_started(page: &mut Vec<u8>, member: u64, label: Label) -> Result<(), NoMemory>
-    ensures { OnOk result (page.new.items ≡ page.old.items ++ started_words member (spec.kind_of label)) }
+fn append_started(page: &mut Page, member: u64, label: Label) -> Result<(), NoMemory>
+    ensures { OnOk result (page.new ≡ page.old ++ started_words member (spec.kind_of label)) }
 {
     match kind_of(label) {
         Some(StepKind::Spawn) => {
-            append(page, b"  ; starts ")?;
-            append_decimal(page, member)
+            page.add(b"  ; starts ")?;
+            page.add_number(member)
         }
         _ => Ok(()),
     }

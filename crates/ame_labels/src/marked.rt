@@ -5,9 +5,9 @@ ghost use Rattle.ame_term.specs.View.{tree_of};
 ghost use Rattle.ame_print.specs.Printer.{spelling_of};
 ghost use Rattle.ame_labels.specs.Marked as spec;
 
+use ame_page::Page;
 use ame_print::print_term;
 use ame_term::{Name, NoMemory, Split, Term, copy_term, refill, split};
-use ame_why::page::append;
 use std::alloc::Global;
 
 /// The text of a term with its redex between marks. The names are as before.
@@ -49,9 +49,9 @@ fn marked_redex(alloc: Global, names: &[Vec<u8>], redex: &Term) -> Result<Vec<u8
     ensures { IfOk result (λ text. text.items ≡ spec.marked_redex (spelling_of names.now) (tree_of redex.now)) }
 {
     let shown = print_term(alloc, names, redex)?;
-    let mut text = Vec::new(alloc);
-    append(&mut text, b">")?;
-    append(&mut text, &shown)?;
-    append(&mut text, b"<")?;
-    Ok(text)
+    let mut text = Page::new(alloc);
+    text.add(b">")?;
+    text.add(&shown)?;
+    text.add(b"<")?;
+    Ok(text.into_bytes())
 }

@@ -10,10 +10,10 @@ ghost use Rattle.ame_labels.specs.WeakOrder.{weak_heading, NoneIsNext, TellsOrde
 ghost use Rattle.ame_labels.specs.Orders.{TellsOne, TellsTries, TellsAll};
 
 use crate::weak_row::{append_before, append_behind, append_try};
+use ame_page::Page;
 use ame_strong::StepFail;
 use ame_term::{Label, NoMemory, Program};
 use ame_weak::{Try, WeakState};
-use ame_why::page::append;
 use std::alloc::Global;
 
 /// A weak state, and the rows that led to it.
@@ -23,7 +23,7 @@ pub(crate) struct Order {
     pub(crate) names: Vec<Vec<u8>>,
     /// The entry of each label.
     pub(crate) numbers: Vec<u64>,
-    pub(crate) page: Vec<u8>,
+    pub(crate) page: Page,
     /// How many entries the labels and tries so far have.
     pub(crate) entries: u64,
 }
@@ -50,28 +50,25 @@ pub fn weak_order_of(
         entries: 0,
     };
     match order.tell_all(alloc, labels, tries) {
-        Ok(()) => Ok(Some(order.page)),
+        Ok(()) => Ok(Some(order.page.into_bytes())),
         Err(StepFail::Illegal) => Ok(None),
         Err(StepFail::NoMemory) => Err(NoMemory),
     }
 }
 
 /// A page with the line that names the columns.
-fn heading(alloc: Global) -> Result<Vec<u8>, NoMemory>
-    ensures { IfOk result (λ page. page.items ≡ weak_heading) }
+fn heading(alloc: Global) -> Result<Page, NoMemory>
+    ensures { IfOk result (λ page. page ≡ weak_heading) }
 {
-    let mut page = Vec::new(alloc);
-    append(
-        &mut page,
-        b"label  entry  fragment   protected code        unprotected code\n",
-    )?;
+    let mut page = Page::new(alloc);
+    page.add(b"label  entry  fragment   protected code        unprotected code\n")?;
     Ok(page)
 }
 
 impl Order {
     /// Makes labels and adds their rows, with those of tries.
     fn tell_all(&mut self, alloc: Global, labels: &[Label], tries: &[Try]) -> Result<(), StepFail>
-        requires empty { self.old.page.items ≡ weak_heading }
+        requires empty { self.old.page ≡ weak_heading }
         requires none { self.old.entries ≡ 0 }
         ensures told { OnOk result (TellsAll labels.now tries.now self.old self.new) }
         ensures illegal { result ≡ Err StepFail.Illegal → weak_run (weak_of self.old.state) labels.now ≡ None }

@@ -10,22 +10,22 @@ ghost use Rattle.ame_labels.specs.Stepped as stepped;
 ghost use Rattle.ame_labels.specs.WeakOrder as spec;
 
 use crate::label_row::{changed_location, held_text, kind_of, reduced_term};
+use ame_page::Page;
 use ame_strong::StrongState;
 use ame_term::{Label, Loc, NoMemory, Split, StepKind, Term, Value, split};
 use ame_weak::{Try, WeakState};
-use ame_why::page::{append, append_column, append_decimal, append_spaces, append_told};
 use std::alloc::Global;
 
 /// Adds what is known of a label before it is made; tells the location that it touches.
 #[tactic(auto, unfolding(crate::specs::WeakOrder::before_label))]
 pub(crate) fn append_before(
-    page: &mut Vec<u8>,
+    page: &mut Page,
     state: &WeakState,
     number: u64,
     entry: u64,
     label: Label,
 ) -> Result<Option<Loc>, NoMemory>
-    ensures page { OnOk result (page.new.items ≡ page.old.items ++ spec.before_label number entry (weak_of state.now) label) }
+    ensures page { OnOk result (page.new ≡ page.old ++ spec.before_label number entry (weak_of state.now) label) }
     ensures touched { IfOk result (λ l. option_map (λ l. l.0) l
         ≡ spec.touched_at (stepped.kind_of label) (stepped.reduced_term (weak_of state.now).state label)) }
 {
@@ -39,16 +39,16 @@ pub(crate) fn append_before(
 #[tactic(auto, unfolding(crate::specs::WeakOrder::behind_label))]
 pub(crate) fn append_behind(
     alloc: Global,
-    page: &mut Vec<u8>,
+    page: &mut Page,
     names: &[Vec<u8>],
     state: &WeakState,
     touched: Option<Loc>,
 ) -> Result<(), NoMemory>
-    ensures { OnOk result (page.new.items ≡ page.old.items
+    ensures { OnOk result (page.new ≡ page.old
         ++ spec.behind_label (spelling_of names.now) (weak_of state.now) (option_map (λ l. l.0) touched)) }
 {
     append_touched(alloc, page, names, state.strong(), touched)?;
-    append(page, b"\n")
+    page.add(b"\n")
 }
 
 /// The location that a label makes, reads or writes.
@@ -91,19 +91,19 @@ fn read_at(term: &Term) -> Option<Loc>
 /// The columns of a label, and what it does.
 #[tactic(auto, unfolding(crate::specs::WeakOrder::columns))]
 fn append_columns(
-    row: &mut Vec<u8>,
+    row: &mut Page,
     number: u64,
     entry: u64,
     active: Option<u64>,
     label: Label,
 ) -> Result<(), NoMemory>
-    ensures { OnOk result (row.new.items ≡ row.old.items ++ spec.columns number entry active label) }
+    ensures { OnOk result (row.new ≡ row.old ++ spec.columns number entry active label) }
 {
-    append_column(row, 5, number)?;
-    append_column(row, 6, entry)?;
-    append_column(row, 9, label_member(active, label))?;
-    append_spaces(row, lane_width(label))?;
-    append(row, label_deed(label))
+    row.add_column(5, number)?;
+    row.add_column(6, entry)?;
+    row.add_column(9, label_member(active, label))?;
+    row.add_spaces(lane_width(label))?;
+    row.add(label_deed(label))
 }
 
 /// The member whose label it is.
@@ -157,22 +157,22 @@ fn step_deed(kind: StepKind) -> &'static [u8]
 }
 
 /// Adds what a reduction of a term tells others, and what it is answered.
-fn append_said(row: &mut Vec<u8>, term: Option<&Term>, label: Label) -> Result<(), NoMemory>
-    ensures { OnOk result (row.new.items ≡ row.old.items ++ spec.said_words (stepped.kind_of label) (option_map (λ t. tree_of t.now) term.entry)) }
+fn append_said(row: &mut Page, term: Option<&Term>, label: Label) -> Result<(), NoMemory>
+    ensures { OnOk result (row.new ≡ row.old ++ spec.said_words (stepped.kind_of label) (option_map (λ t. tree_of t.now) term.entry)) }
 {
     match kind_of(label) {
         Some(StepKind::Print) => append_said_by(row, term),
         Some(StepKind::Device(answer)) => {
             append_said_by(row, term)?;
-            append_told(row, b" = ", answer)
+            row.add_labelled(b" = ", answer)
         }
         _ => Ok(()),
     }
 }
 
 /// Adds what the redex of a term prints or calls.
-fn append_said_by(row: &mut Vec<u8>, term: Option<&Term>) -> Result<(), NoMemory>
-    ensures { OnOk result (row.new.items ≡ row.old.items ++ spec.said_by (option_map (λ t. tree_of t.now) term.entry)) }
+fn append_said_by(row: &mut Page, term: Option<&Term>) -> Result<(), NoMemory>
+    ensures { OnOk result (row.new ≡ row.old ++ spec.said_by (option_map (λ t. tree_of t.now) term.entry)) }
 {
     match term {
         Some(term) => append_said_at(row, term),
@@ -181,8 +181,8 @@ fn append_said_by(row: &mut Vec<u8>, term: Option<&Term>) -> Result<(), NoMemory
 }
 
 /// The same of a term.
-fn append_said_at(row: &mut Vec<u8>, term: &Term) -> Result<(), NoMemory>
-    ensures { OnOk result (row.new.items ≡ row.old.items ++ spec.said_at (focus (tree_of term.now))) }
+fn append_said_at(row: &mut Page, term: &Term) -> Result<(), NoMemory>
+    ensures { OnOk result (row.new ≡ row.old ++ spec.said_at (focus (tree_of term.now))) }
 {
     match split(term) {
         Split::Redex {
@@ -193,21 +193,21 @@ fn append_said_at(row: &mut Vec<u8>, term: &Term) -> Result<(), NoMemory>
             redex: Term::Call(device, part),
             ..
         } => {
-            append_decimal(row, u64::from(*device))?;
-            append(row, b"(")?;
+            row.add_number(u64::from(*device))?;
+            row.add(b"(")?;
             append_integer(row, part)?;
-            append(row, b")")
+            row.add(b")")
         }
         _ => Ok(()),
     }
 }
 
 /// Adds an integer, where a term is one.
-fn append_integer(row: &mut Vec<u8>, part: &Term) -> Result<(), NoMemory>
-    ensures { OnOk result (row.new.items ≡ row.old.items ++ spec.integer_words (tree_of part.now)) }
+fn append_integer(row: &mut Page, part: &Term) -> Result<(), NoMemory>
+    ensures { OnOk result (row.new ≡ row.old ++ spec.integer_words (tree_of part.now)) }
 {
     match part {
-        Term::Held(Value::Int(n)) => append_told(row, b"", *n),
+        Term::Held(Value::Int(n)) => row.add_integer(*n),
         _ => Ok(()),
     }
 }
@@ -215,32 +215,32 @@ fn append_integer(row: &mut Vec<u8>, part: &Term) -> Result<(), NoMemory>
 /// Adds what a location holds, if one is told.
 fn append_touched(
     alloc: Global,
-    row: &mut Vec<u8>,
+    row: &mut Page,
     names: &[Vec<u8>],
     state: &StrongState,
     touched: Option<Loc>,
 ) -> Result<(), NoMemory>
-    ensures { OnOk result (row.new.items ≡ row.old.items ++ spec.touched_words (spelling_of names.now) (state_of state.now) (option_map (λ l. l.0) touched)) }
+    ensures { OnOk result (row.new ≡ row.old ++ spec.touched_words (spelling_of names.now) (state_of state.now) (option_map (λ l. l.0) touched)) }
 {
     let Some(location) = touched else {
         return Ok(());
     };
     let held = held_text(alloc, names, state.stored(location))?;
-    append(row, b"@")?;
-    append_decimal(row, u64::from(location.0))?;
-    append(row, b" = ")?;
-    append(row, &held)
+    row.add(b"@")?;
+    row.add_number(u64::from(location.0))?;
+    row.add(b" = ")?;
+    row.add(&held)
 }
 
 /// Adds the row of a try, the note of which is this entry.
 #[tactic(auto, unfolding(crate::specs::WeakOrder::taken_back_row))]
-pub(crate) fn append_try(page: &mut Vec<u8>, entry: u64, t: &Try) -> Result<(), NoMemory>
-    ensures { OnOk result (page.new.items ≡ page.old.items ++ spec.taken_back_row entry t.now) }
+pub(crate) fn append_try(page: &mut Page, entry: u64, t: &Try) -> Result<(), NoMemory>
+    ensures { OnOk result (page.new ≡ page.old ++ spec.taken_back_row entry t.now) }
 {
-    append(page, b"      ")?;
-    append_column(page, 6, entry)?;
-    append_column(page, 9, t.certificate.number)?;
-    append(page, b"  was tried, and taken back behind step ")?;
-    append_decimal(page, t.certificate.steps)?;
-    append(page, b"\n")
+    page.add(b"      ")?;
+    page.add_column(6, entry)?;
+    page.add_column(9, t.certificate.number)?;
+    page.add(b"  was tried, and taken back behind step ")?;
+    page.add_number(t.certificate.steps)?;
+    page.add(b"\n")
 }

@@ -9,7 +9,7 @@ pub loop-index-init : goal.loop-index-init
 loop-index-init c =
     shows-begin (spelling_of c.args.program.names.items) (tree_of c.args.program.term)
     (record { state = c.in_ok-start.field-0; inside = c.new.result; names = c.args.program.names; page = c.new-2.result }) c.in_ok-start.ensures.start c.new.ensures.empty
-    c.new-2.ensures.items refl
+    c.new-2.ensures refl
 
 pub loop-index-preserved : goal.loop-index-preserved
 loop-index-preserved c =

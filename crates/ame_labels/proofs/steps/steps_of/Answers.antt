@@ -14,11 +14,11 @@ returns c =
     let entries = c.args.entries.now in
     let counted = c.shown_count-count.ensures.value in
     let shown =
-    told-some (λ (rows : _). (r : Replayed) × ShowsSteps names begun (take c.shown_count-count.result entries) rows.items r) c.in_ok-rows.field-0 c.in-Some.rows c.in-Some.is
+    told-some (λ (rows : _). (r : Replayed) × ShowsSteps names begun (take c.shown_count-count.result entries) rows r) c.in_ok-rows.field-0 c.in-Some.rows c.in-Some.is
     c.in_ok-rows.ensures in
     record {
       led = shown.0;
-      rows = c.in-Some.rows.items;
-      shows = subst (λ (k : ℕ). ShowsSteps names begun (take k entries) c.in-Some.rows.items shown.0) counted shown.1;
-      is = c.in_ok-append_rest.ensures ∙ ap (λ (k : ℕ). c.in-Some.rows.items ++ rest_words (length entries - k)) counted;
+      rows = c.in-Some.rows;
+      shows = subst (λ (k : ℕ). ShowsSteps names begun (take k entries) c.in-Some.rows shown.0) counted shown.1;
+      is = c.into_bytes.ensures ∙ c.in_ok-append_rest.ensures ∙ ap (λ (k : ℕ). c.in-Some.rows ++ rest_words (length entries - k)) counted;
     }

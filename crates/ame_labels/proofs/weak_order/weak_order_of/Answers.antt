@@ -1,4 +1,4 @@
-use Rattle.std.proofs.Common.{◌≡◌, None, Err, ap, subst}
+use Rattle.std.proofs.Common.{◌≡◌, None, Err, ap, subst, sym}
 use Rattle.ame_print.specs.Printer.{spelling_of}
 use Rattle.ame_weak.specs.Weak.{Weak, weak_run}
 use Rattle.ame_labels.specs.WeakOrder.{TellsOrder}
@@ -6,8 +6,10 @@ use Rattle.ame_labels.proofs.weak_order.weak_order_of.Goals as goal
 
 pub returns-in-Ok-clause-told : goal.returns-in-Ok-clause-told
 returns-in-Ok-clause-told c =
-    subst (λ (w : Weak). TellsOrder (spelling_of c.args.program.names.items) c.args.numbers.items w c.args.tries.now c.args.labels.now c.tell_all.new.self.page.items)
-    c.in_ok-start.ensures c.in-Ok.ensures.told
+    subst (λ (w : Weak). TellsOrder (spelling_of c.args.program.names.items) c.args.numbers.items w c.args.tries.now c.args.labels.now c.into_bytes.result.items)
+    c.in_ok-start.ensures
+    (subst (TellsOrder (spelling_of c.args.program.names.items) c.args.numbers.items _ c.args.tries.now c.args.labels.now) (sym c.into_bytes.ensures)
+    c.in-Ok.ensures.told)
 
 pub returns-in-Err-Illegal-clause-illegal : goal.returns-in-Err-Illegal-clause-illegal
 returns-in-Err-Illegal-clause-illegal c =

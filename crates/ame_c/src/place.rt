@@ -1,0 +1,37 @@
+//! The number in the line of a status.
+
+ghost use Rattle.std.specs.Prelude.{◌≡◌};
+ghost use Rattle.ame_c.specs.Out as spec;
+
+use ame_app::{Status, TextFault};
+use ame_lex::LexFault;
+use ame_parse::ParseFault;
+
+/// Returns the place of a fault of a text; 0 for out of memory.
+fn place_in(fault: &TextFault) -> u32
+    ensures { result ≡ spec.place_in fault.now }
+{
+    match fault {
+        TextFault::Lexical(LexFault::BadByte(place) | LexFault::LongNumber(place)) => *place,
+        TextFault::Syntactic(
+            ParseFault::Expected(place, _)
+            | ParseFault::UnknownName(place)
+            | ParseFault::TooNested(place)
+            | ParseFault::Trailing(place),
+        ) => *place,
+        TextFault::Lexical(LexFault::NoMemory) | TextFault::Syntactic(ParseFault::NoMemory) => 0,
+    }
+}
+
+/// Returns the last number in the line of a status that a certificate can have; 0 for every other one.
+pub(crate) fn place_of(told: &Status) -> u64
+    ensures { result ≡ spec.place_of told.now }
+{
+    match told {
+        Status::Valid(place) | Status::Invalid(place) | Status::LongJournal(place) => *place,
+        Status::BadJournal(line) => u64::from(*line),
+        Status::Text(fault) => u64::from(place_in(fault)),
+        Status::Types(fault) => u64::from(fault.place),
+        _ => 0,
+    }
+}

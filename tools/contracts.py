@@ -7,7 +7,7 @@ from typing import Dict, Iterator, List, Optional, Set
 from markdown import TOP
 
 CRATES = TOP / "crates"
-FUNCTION = re.compile(r"( *)((?:pub(?:\([^)]*\))? )?(?:ghost )?)fn (\w+)")
+FUNCTION = re.compile(r"( *)((?:pub(?:\([^)]*\))? )?(?:ghost )?(?:extern \"C\" )?)fn (\w+)")
 IMPL = re.compile(r"(?:pub )?(?:unsafe )?(impl|trait)\b")
 CLAUSE = re.compile(r"^\s*(?:ensures|requires) (\w+) \{", re.M)
 ENSURES = re.compile(r"^\s*ensures (?:(\w+) )?\{", re.M)

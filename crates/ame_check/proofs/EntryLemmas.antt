@@ -1,4 +1,4 @@
--- What an entry comes to, by where its steps lead.
+-- The outcome of an entry, by the state to which its steps lead.
 use Rattle.std.proofs.Common.{◌≡◌, ℕ, zero, suc, ◌+◌, ℤ, Bool, true, false, List, [], ◌∷◌, ◌++◌, Option, Some, None, is_none, refl, sym, ap, ◌∙◌, arith, append-nil, if◌then◌else◌}
 use Rattle.std.specs.Option.{option_and_then, option_map}
 use Rattle.ame_term.specs.Tree.{Tree}
@@ -18,7 +18,7 @@ use Rattle.ame_journal.proofs.StepLemmas.{ended-staying}
 use Rattle.ame_check.specs.Walk.{begun_on, steps_on, IsStepping}
 use Rattle.ame_check.proofs.HaltLemmas.{halts-unprotected}
 
--- the entry behind a journal is made where the journal leads
+-- the entry after a journal is made in the state to which the journal leads
 pub behind-journal : (program : Tree) (entries : List Entry) (entry : Entry) (r : Replayed) → replay program entries ≡ Some r → replay program (entries ++ entry ∷ []) ≡ replay_entry r entry
 behind-journal program entries entry r e =
     replay_from-one _ entries entry ∙ ap (option_and_then (λ (t : Replayed). replay_entry t entry)) e
@@ -49,7 +49,7 @@ module _ (s : State) (i : ℕ) (idle : s.active ≡ None) where
     pub fragment-none : (n : ℕ) (fresh : List ℕ) → at_unprotected (focus term) ≡ true → fragment i n fresh s ≡ None
     fragment-none n fresh stands = ap (option_and_then (λ (t : State). steps Label.Step i n (locations fresh) t)) (activate-none stands)
 
-    -- no step is made from where it stands under `unprotected`
+    -- no step is made from its place under `unprotected`
     pub no-steps : (n : ℕ) (fresh : List ℕ) → at_unprotected (focus term) ≡ true → steps_on Side.Protected i (suc n) fresh None (begun_on Side.Protected i s) ≡ None
     no-steps n fresh stands =
         let one : suc n ≡ n + 1 = omega arith in
@@ -100,7 +100,7 @@ module _ (r : Replayed) (i : ℕ) (idle : r.state.active ≡ None) where
       ap (λ (o : Option State). or_else (option_map (entering r i) o) (option_map (staying r) (after t Label.End))) (no-leave r.state i idle t term is member stands)
       ∙ ap (option_map (staying r)) (no-end r.state i idle t term is member value)
 
-  -- a `Ran` entry leads on from where its steps lead, also where the member stands at `unprotected` already
+  -- a `Ran` entry leads on from the end of its steps, also if the member stands at `unprotected` already
   pub ran-is : (term : Tree) (n : ℕ) (fresh : List ℕ) → at r.state.members i ≡ Some term
       → replay_ran r i n fresh ≡ option_and_then (left_or_ended r i) (steps_on Side.Protected i n fresh None (begun_on Side.Protected i r.state))
   ran-is term n fresh member = by (at_unprotected (focus term)) refl
@@ -133,7 +133,7 @@ module _ (r : Replayed) (i : ℕ) (idle : r.state.active ≡ None) where
       ∙ ap (λ (b : Bool). if b then None else replay_ran r i entry.steps entry.fresh) outside
       ∙ ran-is term entry.steps entry.fresh member
 
--- where nothing is left to use, the steps lead to where the walk stands; where something is, they can't be made
+-- if nothing is left to use, the steps lead to the state of the walk; if something is, they can't be made
 pub whole-leads : {types : StoreTyping} (signature : Signature) (s : State) (i : ℕ) (side : Side) (p : _) (n : ℕ) (g : IsStepping signature types s i side p n) → steps_on side i n p.fresh None (begun_on side i s) ≡ Some g.now
 whole-leads signature s i side p n g =
     let none : n ≡ n + 0 = omega arith in

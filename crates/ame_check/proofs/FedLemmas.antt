@@ -1,4 +1,4 @@
--- What a step that was wanted makes of a walk.
+-- A walk after a step that was wanted.
 use Rattle.std.proofs.Common.{◌≡◌, ℕ, ◌+◌, ◌⊎◌, inl, inr, ℤ, Bool, true, List, [], ◌∷◌, ◌++◌, Option, Some, None, is_some, refl, sym, ap, ◌∙◌, subst}
 use Rattle.ame_term.specs.Tree.{Val, Tree, unit_tree}
 use Rattle.ame_term.specs.Signature.{Signature}
@@ -30,7 +30,7 @@ use Rattle.ame_check.specs.Shows.{HasForm}
 use Rattle.ame_check.specs.declared.stored.Stored.{Stored}
 
 module _ (signature : Signature) (s : State) (i : ℕ) where
-  -- where the machine stands then, and how far the walk has come
+  -- the place of the machine then, and how far the walk has come
   pub record IsFedOn (types : StoreTyping) (P : StoreTyping → Type 0) (sets : List (ℕ × Val)) (m o : MachineView) (plain : Tree × LocalState) : Type 0 where
     pub is : stepped_to m (refilled_in m.term plain) ≡ o
     pub later : StoreTyping

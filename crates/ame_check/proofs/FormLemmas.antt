@@ -68,7 +68,7 @@ module _ {V : Type 0} (signature : Signature) where
       → ((l : ℕ) → at cells l ≡ or_else (at overlay l) (at before l)) → HaveForms signature types cells
   forms-merged types overlay before cells over under merged l cell is = form-found types overlay before l cell over under (sym is ∙ merged l)
 
--- Where they are
+-- Their places
 
 module _ {X : Type 0} (P : X → Type 0) where
   pub all-front : (xs ys : List X) → All P (xs ++ ys) → All P xs

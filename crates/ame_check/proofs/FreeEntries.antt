@@ -1,11 +1,11 @@
 -- A `Free` entry, by what its call finds.
-use Rattle.std.proofs.Common.{◌≡◌, ℕ, ◌+◌, ◌<◌, ◌≤◌, ◌++◌, ◌∷◌, [], ◌⊎◌, inl, inr, ℤ, Bool, true, false, List, Option, Some, None, refl, sym, ap, ◌∙◌, subst, arith}
+use Rattle.std.proofs.Common.{◌≡◌, ℕ, ◌+◌, ◌<◌, ◌≤◌, ◌++◌, ◌∷◌, [], inl, inr, ℤ, Bool, true, false, List, Option, Some, None, refl, sym, ap, ◌∙◌, subst, arith}
 use Rattle.ame_term.specs.Tree.{Tree}
 use Rattle.ame_term.specs.Frame.{Side, side_told}
 use Rattle.ame_term.specs.Context.{focus}
 use Rattle.ame_term.specs.Maps.{at, put}
 use Rattle.ame_term.specs.State.{State, at_unprotected}
-use Rattle.ame_journal.specs.Replayed.{Replayed, is_inside, has_such, side_at, leaving}
+use Rattle.ame_journal.specs.Replayed.{is_inside, has_such, side_at, leaving}
 use Rattle.ame_journal.specs.Replay.{replay, replay_entry, or_else}
 use Rattle.ame_journal.specs.declared.entry.Entry.{Entry}
 use Rattle.ame_journal.specs.declared.entry.EntryKind.{EntryKind}
@@ -17,13 +17,13 @@ use Rattle.ame_machine.specs.Move.{settled_stage}
 use Rattle.ame_check.specs.Shows.{ReplayView, ShowsMember, ShowsMembers, StandsForEntries, IsResting}
 use Rattle.ame_check.specs.Walk.{ComesToTall, StaysLow}
 use Rattle.ame_check.specs.Walked.{IsAtStep}
-use Rattle.ame_check.specs.Visit.{HasCome, ComesOfVisit, VisitMeets}
+use Rattle.ame_check.specs.Visit.{HasCome, Stays, Closes, HasVisited, StopsVisit, VisitMeets}
 use Rattle.ame_check.specs.Reasons.{IsMet, entry_side}
 use Rattle.ame_check.specs.declared.reason.Reason.{Reason}
 use Rattle.ame_check.specs.declared.reason.Reason.TheVariants as reason
-use Rattle.ame_check.specs.Entries.{BeginsSteps, MeetsTall, MeetsNoTall}
-use Rattle.ame_check.specs.declared.visit.Visited.{Visited}
-use Rattle.ame_check.specs.declared.visit.Visited.TheVariants as visited
+use Rattle.ame_check.specs.Entries.{BeginsSteps, MeetsNoTall, HasMade, StopsAt}
+use Rattle.ame_check.specs.declared.entry_error.EntryError.{EntryError}
+use Rattle.ame_check.specs.declared.entry_error.EntryError.TheVariants as error
 use Rattle.ame_check.proofs.EntryLemmas.{behind-journal}
 use Rattle.ame_check.proofs.FormLemmas.{forms-merged, below-merged}
 use Rattle.ame_check.proofs.FreeLemmas.{free-outside, free-empty, free-stays, free-closes, free-neither}
@@ -92,27 +92,18 @@ module _ {C V M : Type 0} (meaning : Meaning C V M) (code : C) (accepted : IsAcc
       early : entry.number < st.led.state.next
       early = is-early meaning code entries place st.led st.replayed st.shows entry.number machine found
 
-      module _ (n : ℕ) (count : n + 1 ≡ entry.steps) (later : List (ℕ × Stored V)) (m : M) (found_as : Visited)
-          (visits : (s : State) (i : ℕ) (n : ℕ) → n + 1 ≡ entry.steps → IsAtStep meaning code s i entry.fresh place.cells overlay machine Side.Unprotected 0
-          → ComesOfVisit meaning code s i entry.fresh entry.answer place.cells later m n found_as) where
-        to : (v : Visited) → found_as ≡ v → ComesOfVisit meaning code st.led.state entry.number entry.fresh entry.answer place.cells later m n v
-        to v is =
-            subst (ComesOfVisit meaning code st.led.state entry.number entry.fresh entry.answer place.cells later m n) is (visits st.led.state entry.number n count begins-free)
-
+      module _ (n : ℕ) (count : n + 1 ≡ entry.steps) where
         low-so : StaysLow Side.Unprotected entry.number (n + 1) entry.fresh st.led.state → MeetsNoTall (meaning.program code) entries entry
         low-so low =
             meets-low (meaning.program code) entries entry st.led st.replayed (meaning.stage code machine).term calm.idle term
             (subst (λ (z : EntryKind). StaysLow (entry_side z entry.number st.led.state) entry.number entry.steps entry.fresh st.led.state) (sym kind)
             (subst (λ (k : ℕ). StaysLow Side.Unprotected entry.number k entry.fresh st.led.state) count low))
 
-        pub visit-undefined : (why : Reason) → found_as ≡ visited.Undefined why → FailsBy (meaning.program code) entries entry why
-        visit-undefined why is =
-            let none = to (visited.Undefined why) is in
+        stopped-so : (e : EntryError) → StopsVisit st.led.state entry.number entry.fresh entry.answer n e → StopsAt (meaning.program code) entries entry e
+        stopped-so (error.Undefined why) none =
             fails why (low-so none.0) (none-there (free-neither st.led entry calm.idle kind inside n count none.1 none.2))
             (visit-met st.led entry kind why (subst (λ (k : ℕ). VisitMeets st.led.state entry.number entry.fresh entry.answer k why) count none.3))
-
-        pub visit-tall : found_as ≡ visited.Tall → (r : Replayed) × (replay (meaning.program code) entries ≡ Some r) × MeetsTall r entry
-        visit-tall is =
+        stopped-so error.Tall tall =
             let on : side_at entry.number st.led.state ≡ Side.Unprotected = ap side_told (calm.standing entry.number inside) in (
               st.led,
               st.replayed,
@@ -120,15 +111,25 @@ module _ {C V M : Type 0} (meaning : Meaning C V M) (code : C) (accepted : IsAcc
                   (subst (λ (z : EntryKind). BeginsSteps z (is_inside st.led entry.number) entry.answer) (sym kind) inside)
                   (on ∙ sym (ap (λ (z : EntryKind). entry_side z entry.number st.led.state) kind))
                   (subst (λ (z : Side). ComesToTall z entry.number entry.steps entry.fresh st.led.state) (sym on)
-                  (subst (λ (k : ℕ). ComesToTall Side.Unprotected entry.number k entry.fresh st.led.state) count (to visited.Tall is))),
+                  (subst (λ (k : ℕ). ComesToTall Side.Unprotected entry.number k entry.fresh st.led.state) count tall)),
             )
+        stopped-so error.NoMemory none = none
 
-        module _ (machines : List (ℕ × M)) (gone : at machines entry.number ≡ None) (others : (k : ℕ) → (k ≡ entry.number → ⊥) → at machines k ≡ at place.members k)
+        pub visit-stopped : (e : EntryError)
+            → ((s : State) (i : ℕ) (n : ℕ) → n + 1 ≡ entry.steps → IsAtStep meaning code s i entry.fresh place.cells overlay machine Side.Unprotected 0
+            → StopsVisit s i entry.fresh entry.answer n e)
+            → StopsAt (meaning.program code) entries entry e
+        visit-stopped e stops = stopped-so e (stops st.led.state entry.number n count begins-free)
+
+        module _ (later : List (ℕ × Stored V)) (m : M)
+            (visits : (s : State) (i : ℕ) (n : ℕ) → n + 1 ≡ entry.steps → IsAtStep meaning code s i entry.fresh place.cells overlay machine Side.Unprotected 0
+            → HasVisited meaning code s i entry.fresh entry.answer place.cells later m n)
+            (machines : List (ℕ × M)) (gone : at machines entry.number ≡ None) (others : (k : ℕ) → (k ≡ entry.number → ⊥) → at machines k ≡ at place.members k)
             (cells : List (ℕ × Stored V)) (merged : (l : ℕ) → at cells l ≡ or_else (at later l) (at place.cells l)) (output : List ℤ) (printed : output ≡ place.output ++ (meaning.stage code m).prints)
             (kept : M) (number : ℕ) (last : List (ℕ × M)) (adopts : AdoptsAll meaning code machines place.next m last number kept)
             (back : M) (good : meaning.is_machine code kept → meaning.is_machine code back) (settled : meaning.stage code back ≡ settled_stage (meaning.stage code kept))
             (members : List (ℕ × M)) (put_back : members ≡ put last entry.number back) where
-          -- the state after the entry, of which these are inside
+          -- the state after the entry, whose members inside are these
           after-visit : (b : Bool) (reached : Option State) (h : HasCome meaning code st.led.state entry.number entry.fresh place.cells later m b reached) (in_it : List ℕ)
               → is_inside (record { state = h.now; inside = in_it }) entry.number ≡ b
               → ((k : ℕ) → (k ≡ entry.number → ⊥) → is_inside (record { state = h.now; inside = in_it }) k ≡ is_inside st.led k)
@@ -169,18 +170,25 @@ module _ {C V M : Type 0} (meaning : Meaning C V M) (code : C) (accepted : IsAcc
                     };
               }
 
-          visit-stays : found_as ≡ visited.Stays → StandsForEntries meaning code (entries ++ entry ∷ []) (record { cells = cells; members = members; output = output; next = number })
-          visit-stays is =
-              let h = to visited.Stays is in
-              after-visit true _ h.1 st.led.inside inside (λ k apart. refl) (free-stays st.led entry calm.idle kind inside n count h.1.now h.1.led)
+          visit-stays : Stays meaning code st.led.state entry.number entry.fresh entry.answer place.cells later m n
+              → StandsForEntries meaning code (entries ++ entry ∷ []) (record { cells = cells; members = members; output = output; next = number })
+          visit-stays h =
+              after-visit true _ h st.led.inside inside (λ k apart. refl) (free-stays st.led entry calm.idle kind inside n count h.now h.led)
 
-          visit-closes : found_as ≡ visited.Closes → StandsForEntries meaning code (entries ++ entry ∷ []) (record { cells = cells; members = members; output = output; next = number })
-          visit-closes is =
-              let h = to visited.Closes is in
-              after-visit false _ h.2 (leaving st.led entry.number h.2.now).inside (leaving-own st.led entry.number h.2.now) (λ k apart. leaving-other st.led entry.number k h.2.now apart)
-              (free-closes st.led entry calm.idle kind inside n count h.2.now h.1 h.2.led)
+          visit-closes : Closes meaning code st.led.state entry.number entry.fresh entry.answer place.cells later m n
+              → StandsForEntries meaning code (entries ++ entry ∷ []) (record { cells = cells; members = members; output = output; next = number })
+          visit-closes h =
+              after-visit false _ h.1 (leaving st.led entry.number h.1.now).inside (leaving-own st.led entry.number h.1.now) (λ k apart. leaving-other st.led entry.number k h.1.now apart)
+              (free-closes st.led entry calm.idle kind inside n count h.1.now h.0 h.1.led)
 
-          pub visit-made : (found_as ≡ visited.Stays) ⊎ (found_as ≡ visited.Closes)
-              → MeetsNoTall (meaning.program code) entries entry × StandsForEntries meaning code (entries ++ entry ∷ []) (record { cells = cells; members = members; output = output; next = number })
-          visit-made (inl is) = (low-so (to visited.Stays is).0, visit-stays is)
-          visit-made (inr is) = (low-so (to visited.Closes is).0, visit-closes is)
+          visited : HasVisited meaning code st.led.state entry.number entry.fresh entry.answer place.cells later m n
+          visited = visits st.led.state entry.number n count begins-free
+
+          pub visit-made : HasMade meaning code entries entry (record { cells = cells; members = members; output = output; next = number })
+          visit-made = (
+            low-so visited.0,
+            elim visited.1 [
+              | inl h ↦ visit-stays h
+              | inr h ↦ visit-closes h
+            ],
+          )

@@ -1,4 +1,4 @@
--- A `Free` entry, by where its steps lead.
+-- A `Free` entry, by the state to which its steps lead.
 use Rattle.std.proofs.Common.{◌≡◌, ℕ, suc, ◌+◌, ℤ, Bool, true, false, Option, Some, None, refl, ap, ◌∙◌, arith, if◌then◌else◌}
 use Rattle.std.specs.Option.{option_and_then, option_map}
 use Rattle.ame_term.specs.State.{State, after}
@@ -27,7 +27,7 @@ free-empty r entry kind none =
 
 module _ (r : Replayed) (entry : Entry) (idle : r.state.active ≡ None) (kind : entry.kind ≡ EntryKind.Free) (inside : is_inside r entry.number ≡ true)
     (n : ℕ) (count : n + 1 ≡ entry.steps) where
-  -- steps under `unprotected`, the last of which may be the one that closes
+  -- steps under `unprotected`: the last may be the one that closes
   free-entry : replay_entry r entry
       ≡ or_else (option_map (staying r) (visiting entry.number (suc n) entry.fresh entry.answer r.state)) (replay_closing r entry.number n entry.fresh entry.answer)
   free-entry =

@@ -1,4 +1,4 @@
--- How a walk begins, goes on by one step, and by steps alone.
+-- A walk begins, goes on by one step, and by steps alone.
 use Rattle.std.proofs.Common.{◌≡◌, ℕ, zero, suc, ◌+◌, ◌<◌, ◌==◌, Bool, true, List, [], ◌∷◌, ◌++◌, Option, Some, None, is_none, if◌then◌else◌, refl, sym, ap, ◌∙◌, subst, arith, append_assoc}
 use Rattle.std.specs.Option.{option_and_then}
 use Rattle.std.proofs.lemmas.Option.{option_and_then_some}
@@ -55,7 +55,7 @@ module _ (signature : Signature) (s : State) (i : ℕ) where
   stands-on Side.Unprotected kind t u orderly legal before e =
       (free-moves i (kind ∷ []) t u orderly (run-one t u (Label.Free i kind) legal)).stands (before refl)
 
-  -- it goes on so, by types of locations that have grown and of which this holds
+  -- it goes on so, by types of locations that have grown and that meet this
   pub record GoesOn (types : StoreTyping) (P : StoreTyping → Type 0) (side : Side) (p : LocalState) (n : ℕ) : Type 0 where
     pub later : StoreTyping
     pub grows : Grows types later

@@ -1,4 +1,4 @@
--- Where no further step can be made.
+-- Places at which no further step can be made.
 use Rattle.std.proofs.Common.{◌≡◌, ℕ, suc, ◌+◌, ◌-◌, ◌<◌, ◌≤◌, ◌==◌, ◌⊎◌, inl, inr, ℤ, Bool, true, false, List, [], ◌∷◌, ◌++◌, Option, Some, None, is_some, refl, sym, ap, ◌∙◌, subst, arith, append-nil, append_assoc, if◌then◌else◌}
 use Rattle.std.specs.Option.{option_and_then, option_map}
 use Rattle.std.proofs.lemmas.Bool.{eqb-true, cases_lt}
@@ -107,7 +107,7 @@ module _ (side : Side) (i : ℕ) (t : State) where
           let x = reduced-on side (StepKind.Alloc (record { 0 = l })) i t u active e in
           absurd (taken x.act x.result (let both : Some (Act.Allocates sort number v) ≡ Some x.act = sym is ∙ x.is_act in cc) x.made)
 
--- What stands where no label is legal
+-- Places at which no label is legal
 
 module _ (side : Side) (i : ℕ) (t : State) (term : Tree) (member : at t.members i ≡ Some term) (active : t.active ≡ active_on side i) where
   -- the redex that a legal label reduces
@@ -181,11 +181,11 @@ module _ (side : Side) (i : ℕ) (t : State) (term : Tree) (member : at t.member
       moved same (inl is) = inl (same ∙ is)
       moved same (inr is) = inr (same ∙ is)
 
--- no further step can be made with what is left of the locations, nor with the front of it
+-- no further step can be made with what is left of the locations, nor with a prefix of that
 abbrev pub HaltsBy : Side → ℕ → State → List ℕ → Type 0
 HaltsBy side i t rest = (used more : List ℕ) → rest ≡ used ++ more → Halts side i t used
 
--- nor is one made where none is left, or the first is in the store
+-- nor is one made if none is left, or the first is in the store
 pub halts-by_taken : (side : Side) (i : ℕ) (t : State) (sort : _) (number : TyNo) (v w : Val) (l : ℕ) (rest : List ℕ) → t.active ≡ active_on side i → member_act i t ≡ Some (Act.Allocates sort number v) → at t.store l ≡ Some w
     → HaltsBy side i t (l ∷ rest)
 halts-by_taken side i t sort number v w l rest active is there [] more e = halts-out side i t sort number v is
@@ -197,7 +197,7 @@ pub halts-by_out : (side : Side) (i : ℕ) (t : State) (sort : _) (number : TyNo
 halts-by_out side i t sort number v is [] more e = halts-out side i t sort number v is
 halts-by_out side i t sort number v is (k ∷ used) more e = cc
 
--- Where a walk can't go on, there is none of more steps, and no tall form is passed
+-- If a walk can't go on, there is none of more steps, and no tall form is passed
 
 module _ {types : StoreTyping} (signature : Signature) (s : State) (i : ℕ) (side : Side) (p : LocalState) (n : ℕ) (g : IsStepping signature types s i side p n) (fresh rest : List ℕ) (front : fresh ≡ p.fresh ++ rest)
     (calm : is_tall side i g.now ≡ true → ⊥) (halts : HaltsBy side i g.now rest) (total : ℕ) (below : n < total) where

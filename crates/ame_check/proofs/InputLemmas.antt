@@ -1,4 +1,4 @@
--- Where the line `program` is looked for.
+-- The search for the line `program`.
 use Rattle.std.proofs.Common.{◌≡◌, ◌⊎◌, inl, inr, ℕ, ◌+◌, ◌<◌, ◌≤◌, List, [], ◌++◌, length, codes, sym, ◌∙◌, subst, arith}
 use Rattle.std.proofs.lemmas.List.{drop_all}
 use Rattle.ame_check.specs.Input.{HasProgramLine}

@@ -1,4 +1,4 @@
--- How a journal is judged, entry by entry.
+-- The judgment of a journal, entry by entry.
 use Rattle.std.proofs.Common.{◌≡◌, inl, inr, ℕ, ◌+◌, ◌-◌, ◌<◌, ◌≤◌, List, [], ◌∷◌, ◌++◌, length, take, drop, get_or, option_and_then, Some, None, refl, sym, ap, ◌∙◌, subst, arith}
 use Rattle.std.proofs.lemmas.Bool.{cases_lt}
 use Rattle.std.proofs.lemmas.List.{take_more, take_all, take-append-drop, take-take, same_from_push}
@@ -11,10 +11,12 @@ use Rattle.ame_journal.specs.Totals.{total_steps}
 use Rattle.ame_journal.specs.declared.entry.Entry.{Entry}
 use Rattle.ame_machine.specs.Meaning.{Meaning}
 use Rattle.ame_check.specs.Shows.{ReplayView, StandsForEntries}
-use Rattle.ame_check.specs.Entries.{MeetsTall, MeetsNoTall}
+use Rattle.ame_check.specs.Entries.{MeetsTall, MeetsNoTall, StopsAt}
+use Rattle.ame_check.specs.declared.entry_error.EntryError.{EntryError}
+use Rattle.ame_check.specs.declared.entry_error.EntryError.TheVariants as error
 use Rattle.ame_check.specs.declared.reason.Reason.{Reason}
 use Rattle.ame_check.proofs.ReasonLemmas.{FailsBy}
-use Rattle.ame_check.specs.Judge.{most_steps, IsLong, PassesTallAt, IsUndefinedAt, IsTooHighAt}
+use Rattle.ame_check.specs.Judge.{most_steps, halted_at, IsLong, PassesTallAt, IsUndefinedAt, IsTooHighAt, IsHalted}
 
 -- what follows entries that can't be replayed doesn't change that
 pub undefined-all : (program : Tree) (entries : List Entry) (n : ℕ) → replay program (take n entries) ≡ None → replay program entries ≡ None
@@ -26,7 +28,7 @@ undefined-all program entries n none =
 pub none-longer : (program : Tree) (entries : List Entry) (m n : ℕ) → m ≤ n → replay program (take m entries) ≡ None → replay program (take n entries) ≡ None
 none-longer program entries m n within none = undefined-all program (take n entries) m (ap (replay program) (take-take m n entries within) ∙ none)
 
--- the steps of the entries before an index, none of which is too many
+-- the steps of the entries before an index, which aren't too many
 abbrev pub CountsSteps : List Entry → ℕ → ℕ → ℕ → Type 0
 CountsSteps entries total place index = (total ≡ total_steps (take index entries)) × (total ≤ most_steps) × (place ≡ index)
 
@@ -92,7 +94,7 @@ module _ {C V M : Type 0} (meaning : Meaning C V M) (code : C) (entries : List E
     pub made-so : (later : ReplayView V M) → StandsForEntries meaning code (take index entries ++ entry ∷ []) later → StandsForEntries meaning code (take (index + 1) entries) later
     made-so later s = subst (λ (es : List Entry). StandsForEntries meaning code es later) (sym (one-more_entry entries index below entry is)) s
 
-    -- nor does the next one, where it meets none behind those
+    -- nor does the next one, if it meets none after those
     pub low-so : NoneIsTall (meaning.program code) entries index → MeetsNoTall (meaning.program code) (take index entries) entry → NoneIsTall (meaning.program code) entries (index + 1)
     low-so none meets m within tall = elim (cases_lt m (index + 1)) [
       | inl under ↦ none m (omega (arith, under)) tall
@@ -129,7 +131,7 @@ module _ {C V M : Type 0} (meaning : Meaning C V M) (code : C) (entries : List E
             let clash : None ≡ Some tall.led = sym never ∙ tall.replayed in
             cc
 
-    pub undefined-so : NoneIsTall (meaning.program code) entries index → (why : Reason) → FailsBy (meaning.program code) (take index entries) entry why → IsUndefinedAt (meaning.program code) entries (place + 1) why
+    undefined-so : NoneIsTall (meaning.program code) entries index → (why : Reason) → FailsBy (meaning.program code) (take index entries) entry why → IsUndefinedAt (meaning.program code) entries (place + 1) why
     undefined-so none why fails = record {
       place = in-place;
       led = fails.2.0;
@@ -142,7 +144,7 @@ module _ {C V M : Type 0} (meaning : Meaning C V M) (code : C) (entries : List E
       low = none-after why fails none;
     }
 
-    pub too_high-so : NoneIsTall (meaning.program code) entries index → (r : Replayed) × (replay (meaning.program code) (take index entries) ≡ Some r) × MeetsTall r entry
+    too_high-so : NoneIsTall (meaning.program code) entries index → (r : Replayed) × (replay (meaning.program code) (take index entries) ≡ Some r) × MeetsTall r entry
         → IsTooHighAt (meaning.program code) entries (place + 1)
     too_high-so none tall = record {
       passes = record {
@@ -155,3 +157,9 @@ module _ {C V M : Type 0} (meaning : Meaning C V M) (code : C) (entries : List E
       };
       first = λ m under earlier. none m (let same : place ≡ index = counted in omega arith) earlier;
     }
+
+    pub halted-so : NoneIsTall (meaning.program code) entries index → (e : EntryError) → StopsAt (meaning.program code) (take index entries) entry e
+        → IsHalted (meaning.program code) entries (halted_at (place + 1) e)
+    halted-so none (error.Undefined why) stops = undefined-so none why stops
+    halted-so none error.Tall stops = too_high-so none stops
+    halted-so none error.NoMemory stops = stops

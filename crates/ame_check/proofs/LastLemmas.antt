@@ -16,7 +16,7 @@ use Rattle.ame_machine.specs.Need.{Need, need_at, need_of_focus, need_told}
 use Rattle.ame_machine.specs.declared.wants.Wants.{Wants}
 use Rattle.ame_machine.specs.declared.wants.Wants.TheVariants as wants
 
--- Where the last step leaves something, there is none
+-- If the last step leaves something, there is none
 
 module _ (label : StepKind → Label) (i : ℕ) (t : State) where
   spent : (o : Option State) (supply : Supply) → is_used supply ≡ false → option_and_then (λ u. steps label i 0 supply u) o ≡ None
@@ -74,7 +74,7 @@ module _ (label : StepKind → Label) (i : ℕ) (t : State) where
       let one : Act.Calls device n ≡ act = cc in
       call-leaves l more a q (ap (λ (z : Act). next_kind true z (l ∷ more) (Some a)) one ∙ e))
 
--- What a want under `unprotected` tells
+-- Consequences of a want under `unprotected`
 
 untold-stuck : (want : Wants) → need_told want ≡ Need.Stuck → ⊥
 untold-stuck wants.Done e = cc
@@ -116,7 +116,7 @@ module _ (want : Wants) (tall : want ≡ wants.Tall → ⊥) (device : (k : ℕ)
       cc
   calls-none (Focus.AtRedex Side.Protected _) e act is named = untold-stuck want e
 
--- where a machine doesn't want to close, it can't
+-- a machine that doesn't want to close can't
 pub closes-none : (want : Wants) → (want ≡ wants.Close → ⊥) → (f : Focus) → need_told want ≡ need_of_focus true f → closed_value f ≡ None
 closes-none want apart (Focus.AtRedex Side.Protected (Tree.Unprotected (Tree.Held v))) e = absurd (apart (close-is-told want e))
 closes-none want apart _ e = refl

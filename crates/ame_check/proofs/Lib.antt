@@ -23,3 +23,4 @@ pub mod OnceLemmas
 pub mod InputLemmas
 pub mod ReasonLemmas
 pub mod StandingLemmas
+pub mod StopLemmas

@@ -1,4 +1,4 @@
--- What a replay shows once an entry was made.
+-- The state that a replay shows once an entry was made.
 use Rattle.std.proofs.Common.{◌≡◌, ℕ, ◌+◌, ◌<◌, ◌≤◌, ◌==◌, ◌||◌, ◌⊎◌, inl, inr, ℤ, Bool, true, false, not, List, [], ◌∷◌, ◌++◌, Option, Some, None, is_some, refl, sym, ap, ◌∙◌, subst, arith, length, filter, cond}
 use Rattle.std.specs.List.{list_any}
 use Rattle.std.proofs.lemmas.Bool.{eqb-true, eqb-false, ne_eqb, eq-eqb}
@@ -51,7 +51,7 @@ outside-from r k calm far = by (is_inside r k) refl
     by true e = absurd (let below : k < r.state.next = inside-below r k calm e in let above : r.state.next ≤ k = far in omega arith)
     by false e = refl
 
--- Who is inside after an entry of member i
+-- The members inside after an entry of member i
 
 pub entering-other : (r : Replayed) (i k : ℕ) (s : State) → (k ≡ i → ⊥) → is_inside (entering r i s) k ≡ is_inside r k
 entering-other r i k s apart = ap (λ (b : Bool). b || is_inside r k) (ne_eqb i k (λ same. apart (sym same)))

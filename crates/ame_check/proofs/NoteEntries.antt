@@ -1,9 +1,9 @@
 -- A note, by what its call finds.
-use Rattle.std.proofs.Common.{All, ◌<◌, ◌≡◌, ℕ, ◌≤◌, ◌++◌, ◌∷◌, [], ℤ, Bool, true, false, if◌then◌else◌, List, Option, Some, None, refl, sym, ap, ◌∙◌, subst, is_some, arith}
+use Rattle.std.proofs.Common.{All, ◌<◌, ◌≡◌, ℕ, ◌≤◌, ◌++◌, ◌∷◌, [], ℤ, Bool, true, false, List, Option, Some, None, refl, sym, ap, ◌∙◌, subst, is_some, arith}
 use Rattle.ame_term.specs.Frame.{Side}
 use Rattle.ame_term.specs.Maps.{at}
 use Rattle.ame_term.specs.State.{State}
-use Rattle.ame_journal.specs.Replayed.{Replayed, is_inside, side_at, is_at_unprotected}
+use Rattle.ame_journal.specs.Replayed.{is_inside, side_at, is_at_unprotected}
 use Rattle.ame_journal.specs.Replay.{replay, replay_kind, replay_entry, note_where}
 use Rattle.ame_journal.specs.Totals.{is_note}
 use Rattle.ame_journal.specs.declared.entry.Entry.{Entry}
@@ -16,15 +16,14 @@ use Rattle.ame_machine.specs.Move.{settled_stage, AdvancesWithin}
 use Rattle.ame_machine.specs.declared.wants.Wants.{Wants}
 use Rattle.ame_check.specs.Shows.{ReplayView, ShowsMember, StandsForEntries}
 use Rattle.ame_check.specs.Walk.{steps_on, begun_on, StaysLow}
-use Rattle.ame_check.specs.Walked.{place_with, IsAtStep, RunsAlong}
-use Rattle.ame_check.specs.Entries.{BeginsSteps, MeetsTall, MeetsNoTall, CameOf, is_confirmed, noted_as}
-use Rattle.ame_check.specs.Standing.{TellsReads, StandsAt}
+use Rattle.ame_check.specs.Walked.{place_with, IsAtStep, RunsTo, StopsRun}
+use Rattle.ame_check.specs.Entries.{BeginsSteps, MeetsNoTall, HasMade, StopsAt, is_confirmed}
+use Rattle.ame_check.specs.Standing.{TellsReads, TellsEachRead, StandsAt}
 use Rattle.ame_check.specs.Reasons.{MeetsReason, IsMet, entry_side, is_shut}
 use Rattle.ame_check.specs.declared.reason.Reason.{Reason}
 use Rattle.ame_check.specs.declared.reason.Reason.TheVariants as reason
-use Rattle.ame_check.specs.declared.replay.Made.TheVariants as made
-use Rattle.ame_check.specs.declared.walk.Walked.{Walked}
-use Rattle.ame_check.specs.declared.walk.Walked.TheVariants as walked
+use Rattle.ame_check.specs.declared.entry_error.EntryError.{EntryError}
+use Rattle.ame_check.specs.declared.entry_error.EntryError.TheVariants as error
 use Rattle.ame_check.proofs.EntryLemmas.{behind-journal, stands-as, whole-leads}
 use Rattle.ame_check.proofs.StartLemmas.{its-term, its-rest, its-machine, walk-begins}
 use Rattle.ame_check.proofs.ReasonLemmas.{FailsBy, met-on, note-side, shut-apart, stops-met}
@@ -131,42 +130,40 @@ module _ {C V M : Type 0} (meaning : Meaning C V M) (code : C) (accepted : IsAcc
             (none-there (as-quiet ∙ ap (λ (k : EntryKind). replay_kind k st.led entry.number entry.steps entry.fresh None) so.0
             ∙ stuck-standing st.led entry.number entry.steps entry.fresh (meaning.stage code machine).term calm.idle term stands)) so.3
 
-        module _ (opened : is_shut entry.kind (meaning.stage code settled).inside ≡ false) (later : List (ℕ × Stored V)) (m : M) (found_as : Walked)
-            (runs : (s : State) (i : ℕ) (side : Side) (n : ℕ) → IsAtStep meaning code s i entry.fresh place.cells overlay settled side n
-            → RunsAlong meaning code s i entry.fresh place.cells later m side entry.steps found_as) where
+        module _ (opened : is_shut entry.kind (meaning.stage code settled).inside ≡ false) where
           its_side : side_at entry.number st.led.state ≡ entry_side entry.kind entry.number st.led.state
           its_side = note-side entry.kind note entry.number st.led.state (ap (is_shut entry.kind) (sym flag) ∙ opened)
 
           on-side : (why : Reason) → MeetsReason (side_at entry.number st.led.state) st.led.state entry.number entry.fresh entry.steps why → IsMet st.led entry why
           on-side = met-on st.led entry (side_at entry.number st.led.state) its_side
 
-          to : (w : Walked) → found_as ≡ w → RunsAlong meaning code st.led.state entry.number entry.fresh place.cells later m (side_at entry.number st.led.state) entry.steps w
-          to w is =
-              subst (RunsAlong meaning code st.led.state entry.number entry.fresh place.cells later m (side_at entry.number st.led.state) entry.steps) is
-              (runs st.led.state entry.number (side_at entry.number st.led.state) 0 begins-note)
-
           low-so : StaysLow (side_at entry.number st.led.state) entry.number entry.steps entry.fresh st.led.state → MeetsNoTall (meaning.program code) entries entry
           low-so low =
               meets-low (meaning.program code) entries entry st.led st.replayed (meaning.stage code machine).term calm.idle term
               (subst (λ (z : Side). StaysLow z entry.number entry.steps entry.fresh st.led.state) its_side low)
 
-          noted-no-run : (why : Reason) → found_as ≡ walked.Undefined why → FailsBy (meaning.program code) entries entry why
-          noted-no-run why is =
-              let none = to (walked.Undefined why) is in
+          stopped-so : (e : EntryError) → StopsRun (side_at entry.number st.led.state) entry.number entry.steps entry.fresh st.led.state e → StopsAt (meaning.program code) entries entry e
+          stopped-so (error.Undefined why) none =
               fails why (low-so none.0)
               (none-there (as-quiet ∙ note-undefined st.led entry.number entry.steps entry.fresh (meaning.stage code machine).term calm.idle term entry.kind note none.1)) (on-side why none.2)
-
-          noted-tall : found_as ≡ walked.Tall → (r : Replayed) × (replay (meaning.program code) entries ≡ Some r) × MeetsTall r entry
-          noted-tall is = (
+          stopped-so error.Tall tall = (
             st.led,
             st.replayed,
             side-tall st.led entry (meaning.stage code machine).term calm.idle term
-                (begins-note_so entry.kind note (is_inside st.led entry.number) entry.answer quiet) its_side (to walked.Tall is),
+                (begins-note_so entry.kind note (is_inside st.led entry.number) entry.answer quiet) its_side tall,
           )
+          stopped-so error.NoMemory none = none
 
-          module _ (next : Wants) (is : found_as ≡ walked.Whole next) where
-            whole : RunsAlong meaning code st.led.state entry.number entry.fresh place.cells later m (side_at entry.number st.led.state) entry.steps (walked.Whole next)
-            whole = to (walked.Whole next) is
+          pub noted-stopped : (e : EntryError)
+              → ((s : State) (i : ℕ) (side : Side) (n : ℕ) → IsAtStep meaning code s i entry.fresh place.cells overlay settled side n → StopsRun side i entry.steps entry.fresh s e)
+              → StopsAt (meaning.program code) entries entry e
+          noted-stopped e stops = stopped-so e (stops st.led.state entry.number (side_at entry.number st.led.state) 0 begins-note)
+
+          module _ (later : List (ℕ × Stored V)) (m : M) (next : Wants)
+              (runs : (s : State) (i : ℕ) (side : Side) (n : ℕ) → IsAtStep meaning code s i entry.fresh place.cells overlay settled side n
+              → RunsTo meaning code s i entry.fresh place.cells later m side entry.steps next) where
+            whole : RunsTo meaning code st.led.state entry.number entry.fresh place.cells later m (side_at entry.number st.led.state) entry.steps next
+            whole = runs st.led.state entry.number (side_at entry.number st.led.state) 0 begins-note
 
             leads : steps_on (side_at entry.number st.led.state) entry.number entry.steps entry.fresh None (begun_on (side_at entry.number st.led.state) entry.number st.led.state)
                 ≡ Some whole.0.walking.going.now
@@ -186,8 +183,9 @@ module _ {C V M : Type 0} (meaning : Meaning C V M) (code : C) (accepted : IsAcc
             has-low = low-so (walked-low meaning code sound st.led.state entry.number entry.fresh place.cells later m (side_at entry.number st.led.state) entry.steps whole.0)
 
             pub stands-there : (reads : List (ℕ × ℕ)) → TellsReads (side_at entry.number st.led.state) st.led.state entry.number entry.fresh entry.steps reads
+                → TellsEachRead (side_at entry.number st.led.state) st.led.state entry.number entry.fresh entry.steps entry.steps reads
                 → StandsAt meaning code entries entry m next reads
-            stands-there reads told = record {
+            stands-there reads told each = record {
               led = st.led;
               replayed = st.replayed;
               now = whole.0.walking.going.now;
@@ -196,9 +194,10 @@ module _ {C V M : Type 0} (meaning : Meaning C V M) (code : C) (accepted : IsAcc
               member = whole.0.walking.going.member;
               wants = whole.2;
               told = told;
+              each = each;
             }
 
-            noted-so : is_confirmed entry.kind next ≡ true → MeetsNoTall (meaning.program code) entries entry × StandsForEntries meaning code (entries ++ entry ∷ []) place
+            pub noted-so : is_confirmed entry.kind next ≡ true → HasMade meaning code entries entry place
             noted-so so = (
               has-low,
               record {
@@ -212,19 +211,9 @@ module _ {C V M : Type 0} (meaning : Meaning C V M) (code : C) (accepted : IsAcc
               },
             )
 
-            noted-not : is_confirmed entry.kind next ≡ false → FailsBy (meaning.program code) entries entry (reason.Stops entry.steps next)
+            pub noted-not : is_confirmed entry.kind next ≡ false → FailsBy (meaning.program code) entries entry (reason.Stops entry.steps next)
             noted-not wrong =
                 let least : entry.steps ≤ entry.steps = omega arith in
                 fails (reason.Stops entry.steps next) has-low (none-there (tells ∙ ap (λ (b : Bool). note_where b st.led) wrong))
                 (on-side (reason.Stops entry.steps next)
                 (stops-met meaning code sound st.led.state entry.number entry.fresh place.cells later m (side_at entry.number st.led.state) entry.steps whole.0 entry.steps least entry.steps (sym whole.0.counted) next whole.2))
-
-          by-confirmed : (next : Wants) → found_as ≡ walked.Whole next → (so : Bool) → is_confirmed entry.kind next ≡ so →
-              CameOf meaning code entries entry place (if so then made.Made else made.Undefined (reason.Stops entry.steps next))
-          by-confirmed next is true so = noted-so next is so
-          by-confirmed next is false so = noted-not next is so
-
-          pub noted-all : (w : Walked) → found_as ≡ w → CameOf meaning code entries entry place (noted_as entry.kind entry.steps w)
-          noted-all (walked.Whole next) is = by-confirmed next is (is_confirmed entry.kind next) refl
-          noted-all (walked.Undefined why) is = noted-no-run why is
-          noted-all walked.Tall is = noted-tall is

@@ -47,7 +47,7 @@ attempt-is s i n fresh term idle member = by (at_unprotected (focus term)) refl
         (ap (λ (o : Option ℕ). steps (Label.Free i) i n (locations fresh) (record s { active = o })) idle)
     by false calm = on Side.Protected (ap side_told (stands-as s i idle term member ∙ calm)) (fragment-calm s i idle term member n fresh calm)
 
--- Where a machine stands
+-- The place of a machine
 
 -- whether it leaves
 at-leave : (f : Focus) → need_of_focus false f ≢ Need.Leave → at_unprotected f ≡ false
@@ -70,7 +70,7 @@ unfolding act_of
 failing-need (Focus.AtRedex Side.Protected (Tree.One unary.Block (Tree.Held (Val.Bool false)))) e = refl
 failing-need _ e = cc
 
--- What is told and what is so
+-- Notes and facts
 
 blocks-told : (want : Wants) → need_told want ≡ Need.Block → want ≡ wants.Block
 blocks-told wants.Block e = refl
@@ -120,7 +120,7 @@ module _ (m : MachineView) (sound : IsSoundStage m) (want : Wants) (told : m.wan
               omega arith)
       by false low = sym (untall want (λ is. let clash : true ≡ false = sym (eq-eqb _ _ (tall-is m sound.low (sym tells ∙ ap need_told is))) ∙ low in cc))
 
--- What a note tells is so or not
+-- A note is right or not
 
 module _ (r : Replayed) (i n : ℕ) (fresh : List ℕ) (term : Tree) (idle : r.state.active ≡ None) (member : at r.state.members i ≡ Some term) where
   stuck-calm : (o : Option State) → at_unprotected (focus term) ≡ false → steps_on (side_at i r.state) i n fresh None (begun_on (side_at i r.state) i r.state) ≡ o
@@ -213,22 +213,22 @@ side-tall r entry term idle member begins side c = record {
   tall = c.tall;
 }
 
--- Where an entry meets no tall form
+-- Entries that meet no tall form
 
 module _ (program : Tree) (entries : List Entry) (entry : Entry) (r : Replayed) (replayed : replay program entries ≡ Some r) where
-  -- where its steps aren't begun
+  -- if its steps aren't begun
   pub meets-unbegun : (BeginsSteps entry.kind (is_inside r entry.number) entry.answer → ⊥) → MeetsNoTall program entries entry
   meets-unbegun never t e tall =
       let same : r ≡ t = (let both : Some r ≡ Some t = sym replayed ∙ e in cc) in
       never (subst (λ (z : Replayed). BeginsSteps entry.kind (is_inside z entry.number) entry.answer) (sym same) tall.begins)
 
-  -- where its member stands on another side
+  -- if its member stands on another side
   pub meets-apart : (side_at entry.number r.state ≡ entry_side entry.kind entry.number r.state → ⊥) → MeetsNoTall program entries entry
   meets-apart apart t e tall =
       let same : r ≡ t = (let both : Some r ≡ Some t = sym replayed ∙ e in cc) in
       apart (subst (λ (z : Replayed). side_at entry.number z.state ≡ entry_side entry.kind entry.number z.state) (sym same) tall.side)
 
-  -- where there is no such member
+  -- if there is no such member
   pub meets-nobody : r.state.active ≡ None → at r.state.members entry.number ≡ None → MeetsNoTall program entries entry
   meets-nobody idle none t e tall =
       let same : r ≡ t = (let both : Some r ≡ Some t = sym replayed ∙ e in cc) in
@@ -239,7 +239,7 @@ module _ (program : Tree) (entries : List Entry) (entry : Entry) (r : Replayed) 
       let clash : None ≡ Some tall.there = sym nowhere ∙ here in
       cc
 
-  -- where its steps pass none
+  -- if its steps pass none
   pub meets-low : (term : Tree) → r.state.active ≡ None → at r.state.members entry.number ≡ Some term
       → StaysLow (entry_side entry.kind entry.number r.state) entry.number entry.steps entry.fresh r.state → MeetsNoTall program entries entry
   meets-low term idle member low t e tall =
@@ -258,7 +258,7 @@ module _ (program : Tree) (entries : List Entry) (entry : Entry) (r : Replayed) 
         tall = tall.tall;
       }))
 
--- How a note's machine begins
+-- The machine of a note begins
 
 -- no step was made
 pub none-made : (m o : MachineView) → AdvancesWithin 0 m o → (o.term ≡ m.term) × (o.inside ≡ m.inside)

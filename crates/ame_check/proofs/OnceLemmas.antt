@@ -12,7 +12,7 @@ use Rattle.ame_check.specs.declared.judging.Judged.{Judged}
 use Rattle.ame_check.specs.declared.judging.Judged.TheVariants as judged
 use Rattle.ame_check.proofs.JudgeLemmas.{none-longer}
 
--- two numbers, neither of which is below the other, are the same
+-- two numbers that aren't below each other are the same
 one-number : (m n : ℕ) → (m < n → ⊥) → (n < m → ⊥) → m ≡ n
 one-number m n not_below not_above = grind arith
 

@@ -3,7 +3,7 @@ use Rattle.std.proofs.Common.{◌≡◌, ℕ, ◌<◌, ◌≤◌, ◌++◌, ◌�
 use Rattle.ame_term.specs.Frame.{Side}
 use Rattle.ame_term.specs.Maps.{at, put}
 use Rattle.ame_term.specs.State.{State}
-use Rattle.ame_journal.specs.Replayed.{Replayed, is_inside}
+use Rattle.ame_journal.specs.Replayed.{is_inside}
 use Rattle.ame_journal.specs.Replay.{replay, or_else}
 use Rattle.ame_journal.specs.declared.entry.Entry.{Entry}
 use Rattle.ame_journal.specs.declared.entry.EntryKind.{EntryKind}
@@ -15,16 +15,16 @@ use Rattle.ame_machine.specs.Move.{settled_stage}
 use Rattle.ame_machine.specs.declared.wants.Wants.{Wants}
 use Rattle.ame_machine.specs.declared.wants.Wants.TheVariants as wants
 use Rattle.ame_check.specs.Shows.{ReplayView, ShowsMember, StandsForEntries}
-use Rattle.ame_check.specs.Walked.{IsAtStep, RunsAlong}
-use Rattle.ame_check.specs.Entries.{BeginsSteps, MeetsTall, MeetsNoTall}
+use Rattle.ame_check.specs.Walked.{IsAtStep, RunsTo, StopsRun}
+use Rattle.ame_check.specs.Entries.{BeginsSteps, MeetsNoTall, HasMade, StopsAt}
 use Rattle.ame_check.specs.Walk.{StaysLow}
 use Rattle.ame_check.proofs.NoteLemmas.{meets-unbegun, meets-nobody, meets-low}
 use Rattle.ame_check.proofs.WantLemmas.{walked-low}
 use Rattle.ame_check.specs.Reasons.{MeetsReason, IsMet, IsShut, entry_side}
 use Rattle.ame_check.specs.declared.reason.Reason.{Reason}
 use Rattle.ame_check.specs.declared.reason.Reason.TheVariants as reason
-use Rattle.ame_check.specs.declared.walk.Walked.{Walked}
-use Rattle.ame_check.specs.declared.walk.Walked.TheVariants as walked
+use Rattle.ame_check.specs.declared.entry_error.EntryError.{EntryError}
+use Rattle.ame_check.specs.declared.entry_error.EntryError.TheVariants as error
 use Rattle.ame_check.proofs.ReasonLemmas.{FailsBy, met-on, stops-met}
 use Rattle.ame_check.proofs.StartLemmas.{its-term, its-rest, its-machine, is-early, walk-begins}
 use Rattle.ame_check.proofs.RanLemmas.{AdoptsAll, undefined-there, ran-undefined, ran-neither, ran-ended, ran-left, ran-answered, ran-inside, ran-absent, protected-tall}
@@ -88,14 +88,7 @@ module _ {C V M : Type 0} (meaning : Meaning C V M) (code : C) (accepted : IsAcc
       outside : is_inside st.led entry.number ≡ false
       outside = sym (ap (λ (z : MachineView). z.inside) rest) ∙ flag
 
-      module _ (quiet : entry.answer ≡ None) (later : List (ℕ × Stored V)) (m : M) (found_as : Walked)
-          (runs : (s : State) (i : ℕ) (side : Side) (n : ℕ) → IsAtStep meaning code s i entry.fresh place.cells overlay machine side n
-          → RunsAlong meaning code s i entry.fresh place.cells later m side entry.steps found_as) where
-        to : (w : Walked) → found_as ≡ w → RunsAlong meaning code st.led.state entry.number entry.fresh place.cells later m Side.Protected entry.steps w
-        to w is =
-            subst (RunsAlong meaning code st.led.state entry.number entry.fresh place.cells later m Side.Protected entry.steps) is
-            (runs st.led.state entry.number Side.Protected 0 begins-ran)
-
+      module _ (quiet : entry.answer ≡ None) where
         early : entry.number < st.led.state.next
         early = is-early meaning code entries place st.led st.replayed st.shows entry.number machine found
 
@@ -104,24 +97,29 @@ module _ {C V M : Type 0} (meaning : Meaning C V M) (code : C) (accepted : IsAcc
             meets-low (meaning.program code) entries entry st.led st.replayed (meaning.stage code machine).term calm.idle term
             (subst (λ (z : EntryKind). StaysLow (entry_side z entry.number st.led.state) entry.number entry.steps entry.fresh st.led.state) (sym kind) low)
 
-        pub has-no-run : (why : Reason) → found_as ≡ walked.Undefined why → FailsBy (meaning.program code) entries entry why
-        has-no-run why is =
-            let none = to (walked.Undefined why) is in
+        stopped-so : (e : EntryError) → StopsRun Side.Protected entry.number entry.steps entry.fresh st.led.state e → StopsAt (meaning.program code) entries entry e
+        stopped-so (error.Undefined why) none =
             fails why (low-so none.0)
             (ran-undefined meaning code entries entry place st.led st.replayed st.shows calm machine found term early st.below kind quiet outside none.1) (on-side why none.2)
-
-        pub has-tall : found_as ≡ walked.Tall → (r : Replayed) × (replay (meaning.program code) entries ≡ Some r) × MeetsTall r entry
-        has-tall is = (
+        stopped-so error.Tall tall = (
           st.led,
           st.replayed,
           protected-tall st.led entry (meaning.stage code machine).term calm.idle term
               (subst (λ (z : EntryKind). BeginsSteps z (is_inside st.led entry.number) entry.answer) (sym kind) (outside, quiet))
-              (ap (λ (z : EntryKind). entry_side z entry.number st.led.state) kind) (to walked.Tall is),
+              (ap (λ (z : EntryKind). entry_side z entry.number st.led.state) kind) tall,
         )
+        stopped-so error.NoMemory none = none
 
-        module _ (want : Wants) (is : found_as ≡ walked.Whole want) where
-          whole : RunsAlong meaning code st.led.state entry.number entry.fresh place.cells later m Side.Protected entry.steps (walked.Whole want)
-          whole = to (walked.Whole want) is
+        pub ran-stopped : (e : EntryError)
+            → ((s : State) (i : ℕ) (side : Side) (n : ℕ) → IsAtStep meaning code s i entry.fresh place.cells overlay machine side n → StopsRun side i entry.steps entry.fresh s e)
+            → StopsAt (meaning.program code) entries entry e
+        ran-stopped e stops = stopped-so e (stops st.led.state entry.number Side.Protected 0 begins-ran)
+
+        module _ (later : List (ℕ × Stored V)) (m : M) (want : Wants)
+            (runs : (s : State) (i : ℕ) (side : Side) (n : ℕ) → IsAtStep meaning code s i entry.fresh place.cells overlay machine side n
+            → RunsTo meaning code s i entry.fresh place.cells later m side entry.steps want) where
+          whole : RunsTo meaning code st.led.state entry.number entry.fresh place.cells later m Side.Protected entry.steps want
+          whole = runs st.led.state entry.number Side.Protected 0 begins-ran
 
           pub has-low : MeetsNoTall (meaning.program code) entries entry
           has-low = low-so (walked-low meaning code sound st.led.state entry.number entry.fresh place.cells later m Side.Protected entry.steps whole.0)
@@ -138,7 +136,7 @@ module _ {C V M : Type 0} (meaning : Meaning C V M) (code : C) (accepted : IsAcc
               (cells : List (ℕ × Stored V)) (merged : (l : ℕ) → at cells l ≡ or_else (at later l) (at place.cells l)) (output : List ℤ) (printed : output ≡ place.output ++ (meaning.stage code m).prints)
               (kept : M) (number : ℕ) (last : List (ℕ × M)) (adopts : AdoptsAll meaning code machines place.next m last number kept) where
             pub ended-so : want ≡ wants.Done
-                → MeetsNoTall (meaning.program code) entries entry × StandsForEntries meaning code (entries ++ entry ∷ []) (record { cells = cells; members = last; output = output; next = number })
+                → HasMade meaning code entries entry (record { cells = cells; members = last; output = output; next = number })
             ended-so done = (
               has-low,
               ran-ended meaning code entries entry place st.led st.replayed st.shows calm machine found term early st.below kind quiet outside later m whole.0 whole.1 (sound m whole.0.walking.machine)
@@ -147,7 +145,7 @@ module _ {C V M : Type 0} (meaning : Meaning C V M) (code : C) (accepted : IsAcc
 
             pub left-so : want ≡ wants.Leave → (back : M) → (meaning.is_machine code kept → meaning.is_machine code back) → meaning.stage code back ≡ settled_stage (meaning.stage code kept)
                 → (members : List (ℕ × M)) → members ≡ put last entry.number back
-                → MeetsNoTall (meaning.program code) entries entry × StandsForEntries meaning code (entries ++ entry ∷ []) (record { cells = cells; members = members; output = output; next = number })
+                → HasMade meaning code entries entry (record { cells = cells; members = members; output = output; next = number })
             left-so left back good settled members put_back = (
               has-low,
               ran-left meaning code entries entry place st.led st.replayed st.shows calm machine found term early st.below kind quiet outside later m whole.0 whole.1 (sound m whole.0.walking.machine)

@@ -40,7 +40,7 @@ abbrev pub AdoptsAll : {C V M : Type 0} → Meaning C V M → C → List (ℕ ×
 AdoptsAll meaning code machines next m last number kept = (before : List (ℕ × Tree)) (inside : ℕ → Bool) → meaning.is_machine code m → ShowsMembers meaning code inside machines before
     → ((k : ℕ) → next ≤ k → inside k ≡ false) → Adopts meaning code inside before next (meaning.stage code m) last number kept
 
--- Where a machine stands
+-- The place of a machine
 
 not-told : (want : Wants) → (want ≡ wants.Done → ⊥) → (want ≡ wants.Leave → ⊥) → (need_told want ≢ Need.Done) × (need_told want ≢ Need.Leave)
 not-told wants.Done a b = absurd (a refl)
@@ -228,7 +228,7 @@ module _ {C V M : Type 0} (meaning : Meaning C V M) (code : C) (entries : List E
                   };
             }
 
--- Where it is undefined at once
+-- If it is undefined at once
 
 pub no-fragment : (s : State) (i : ℕ) (n : ℕ) (fresh : List ℕ) → s.active ≡ None → at s.members i ≡ None → fragment i n fresh s ≡ None
 unfolding after

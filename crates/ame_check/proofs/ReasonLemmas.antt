@@ -1,4 +1,4 @@
--- What a walk met where it can't go on.
+-- Reasons for which a walk can't go on.
 use Rattle.std.proofs.Common.{◌≡◌, ℕ, ◌<◌, ◌≤◌, ℤ, Bool, true, false, List, [], ◌∷◌, ◌++◌, Option, Some, None, is_some, map, length, get_or, refl, sym, ap, ◌∙◌, subst, arith}
 use Rattle.ame_term.specs.Frame.{Side, side_told}
 use Rattle.ame_term.specs.Context.{focus}
@@ -83,7 +83,7 @@ module _ {C V M : Type 0} (meaning : Meaning C V M) (code : C) (sound : (m : M) 
         let r = rest-some told used a.walking.rest (record { 0 = 0 }) front below in
         unused-met want wanted (get_or told (length used) (record { 0 = 0 })) r.0 r.1
 
--- What a walk meets, the entry meets
+-- An entry meets each reason that its walk meets
 pub met-on : (r : Replayed) (entry : Entry) (side : Side) → side ≡ entry_side entry.kind entry.number r.state → (why : Reason)
     → MeetsReason side r.state entry.number entry.fresh entry.steps why → IsMet r entry why
 met-on r entry side is (reason.Stops k want) met = subst (λ (z : Side). MeetsReason z r.state entry.number entry.fresh entry.steps (reason.Stops k want)) is met

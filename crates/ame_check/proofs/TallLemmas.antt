@@ -17,9 +17,9 @@ use Rattle.ame_machine.specs.Run.Local.{LocalState}
 use Rattle.ame_check.specs.Walk.{label_by, begun_on, steps_on, StaysLow, IsStepping}
 use Rattle.ame_term.specs.Signature.{Signature}
 
--- Steps and locations behind those that they use
+-- Steps and locations after those that they use
 
-two-fronts : (a b c d : List ℕ) → a ++ b ≡ c ++ d → ((x : List ℕ) × (c ≡ a ++ x)) ⊎ ((x : List ℕ) × (a ≡ c ++ x))
+pub two-fronts : (a b c d : List ℕ) → a ++ b ≡ c ++ d → ((x : List ℕ) × (c ≡ a ++ x)) ⊎ ((x : List ℕ) × (a ≡ c ++ x))
 two-fronts [] b c d e = inl (c, refl)
 two-fronts (k ∷ a) b [] d e = inr (k ∷ a, refl)
 two-fronts (k ∷ a) b (l ∷ c) d e =
@@ -31,7 +31,7 @@ two-fronts (k ∷ a) b (l ∷ c) d e =
     by same (inl (x, is)) = inl (x, ap (λ (z : ℕ). z ∷ c) (sym same) ∙ ap (λ (zs : List ℕ). k ∷ zs) is)
     by same (inr (x, is)) = inr (x, ap (λ (z : ℕ). z ∷ a) same ∙ ap (λ (zs : List ℕ). l ∷ zs) is)
 
--- a step without an answer takes its location from the front, whatever is behind it
+-- a step without an answer takes the first location, whatever comes after it
 front-is : (name : StepName) (other : Bool) (x : List ℕ) (p q : StepKind × Supply) → Some p ≡ Some q → step_by_name name other (fresh_of p.0 ++ x) None ≡ Some (p.0, locations x)
     → step_by_name name other (fresh_of q.0 ++ x) None ≡ Some (q.0, locations x)
 front-is name other x p q e is = let same : p ≡ q = cc in subst (λ (k : StepKind × Supply). step_by_name name other (fresh_of k.0 ++ x) None ≡ Some (k.0, locations x)) same is
@@ -65,7 +65,7 @@ module _ (label : StepKind → Label) (i : ℕ) where
       (ap (λ (xs : List ℕ). next_kind (n == 0) act xs None) front ∙ kind-front (n == 0) (n == 0) act used (next.1.fresh ++ x) next is_next) legal
       ∙ steps-all n next.1.fresh x t there (ap (λ (z : Supply). steps label i n z t) (sym (none_left (n == 0) act used next is_next)) ∙ third))))
 
-  -- where the first of some steps lead, and the others from there
+  -- the state to which the first of some steps lead, and the others from there
   pub record AreSplit (n left : ℕ) (used : List ℕ) (s there : State) : Type 0 where
     pub first : List ℕ
     pub others : List ℕ
@@ -106,7 +106,7 @@ module _ {types : StoreTyping} (signature : Signature) (s : State) (i : ℕ) (si
       let none : n ≡ n + 0 = omega arith in
       ap (λ (k : ℕ). steps_on side i k (p.fresh ++ x) None (begun_on side i s)) none ∙ g.goes 0 x None
 
-  -- as many steps use as many locations, and lead where it stands
+  -- as many steps use as many locations, and lead to its place
   pub same-there : (more used rest : List ℕ) (there : State) → p.fresh ++ more ≡ used ++ rest → steps_on side i n used None (begun_on side i s) ≡ Some there → (p.fresh ≡ used) × (g.now ≡ there)
   same-there more used rest there e leads = by (two-fronts p.fresh more used rest e)
     where

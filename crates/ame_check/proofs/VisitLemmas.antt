@@ -20,7 +20,7 @@ use Rattle.ame_journal.proofs.SupplyLemmas.{takes-last}
 use Rattle.ame_journal.proofs.ReplayLemmas.{steps-behind}
 use Rattle.ame_machine.specs.Comes.{HasNextAct}
 use Rattle.ame_machine.specs.Meaning.{Meaning}
-use Rattle.ame_machine.specs.MachineView.{MachineView, place_shown, running_side}
+use Rattle.ame_machine.specs.MachineView.{MachineView, place_shown}
 use Rattle.ame_machine.specs.Move.{after_input, closed_stage, closed_with, fed_stage, settled_stage, stepped_to, tells_leave}
 use Rattle.ame_machine.specs.Need.{Need, need_of_focus, need_told}
 use Rattle.ame_machine.specs.Run.AgreesWith.{IsAfterRun}
@@ -33,10 +33,8 @@ use Rattle.ame_machine.proofs.NeedLemmas.{comes_as}
 use Rattle.ame_machine.proofs.Run.RunLemmas.{step-of, acted-more}
 use Rattle.ame_machine.proofs.Run.EffectLemmas.{IsStepMade, step-made, unfed}
 use Rattle.ame_check.specs.Visit.{visiting, closing, HasCome}
-use Rattle.ame_check.specs.Walk.{label_by, steps_on, IsStepping, IsNoWalk, ComesToTall}
-use Rattle.ame_check.specs.Walked.{place_with, WantsAnswer, is_plain, IsWalking, IsAtStep, WalksAlong}
-use Rattle.ame_check.specs.declared.walk.Walked.{Walked}
-use Rattle.ame_check.specs.declared.walk.Walked.TheVariants as walked
+use Rattle.ame_check.specs.Walk.{label_by, steps_on, IsStepping, IsNoWalk}
+use Rattle.ame_check.specs.Walked.{place_with, WantsAnswer, is_plain, IsAtStep}
 use Rattle.ame_check.proofs.EntryLemmas.{whole-leads}
 use Rattle.ame_check.proofs.FormLemmas.{forms-grow}
 use Rattle.ame_check.proofs.GoingLemmas.{legal-on}
@@ -100,7 +98,7 @@ module _ {C V M : Type 0} (meaning : Meaning C V M) (code : C) where
     act-here : (act : Act) → member_act i here.now ≡ Some act → redex_act (focus view.term) ≡ Some act
     act-here act e = sym (ap (option_and_then (λ (z : Tree). redex_act (focus z))) here.member) ∙ e
 
-    -- Where it can't close
+    -- If it can't close
 
     close-by : (v : Option Val) → closed_value (focus view.term) ≡ v
         → after here.now (Label.Close i) ≡ option_map (λ w. record here.now { members = change here.now.members i (fill view.term (Tree.Held w)) }) v
@@ -307,7 +305,7 @@ module _ {C V M : Type 0} (meaning : Meaning C V M) (code : C) where
         pub has-closed_so : (visiting i (n + 1) fresh answer s ≡ None) × HasCome meaning code s i fresh cells overlay o false (closing i n fresh answer s)
         has-closed_so = (no-further answer none, has-closed)
 
-    -- What is left to use
+    -- Locations that are left to use
 
     module _ (told used : List Loc) (as_told : fresh ≡ map (λ z. z.0) told) (as_used : map (λ z. z.0) used ≡ view.fresh) where
       front : map (λ z. z.0) told ≡ map (λ z. z.0) used ++ a.walking.rest
@@ -353,19 +351,7 @@ module _ {C V M : Type 0} (meaning : Meaning C V M) (code : C) (s : State) (i : 
       or-true true = refl
       or-true false = refl
 
-pub tall-last : (s : State) (i : ℕ) (fresh : List ℕ) (few many : ℕ) → few ≤ many → ComesToTall Side.Unprotected i few fresh s → ComesToTall Side.Unprotected i many fresh s
-tall-last s i fresh few many within c = record {
-  made = c.made;
-  below = let under : c.made < few = c.below in omega arith;
-  used = c.used;
-  rest = c.rest;
-  front = c.front;
-  there = c.there;
-  leads = c.leads;
-  tall = c.tall;
-}
-
--- where the steps before the last can't be made
+-- if the steps before the last can't be made
 pub none-before : (s : State) (i : ℕ) (fresh : List ℕ) (n : ℕ) (answer : Option ℤ) → IsNoWalk Side.Unprotected i n fresh s
     → (visiting i (n + 1) fresh answer s ≡ None) × (closing i n fresh answer s ≡ None)
 none-before s i fresh n answer never = (never.never (n + 1) answer (omega arith) (λ e. absurd (omega arith)), by answer)
@@ -378,23 +364,3 @@ none-before s i fresh n answer never = (never.never (n + 1) answer (omega arith)
 pub as-counted : {C V M : Type 0} (meaning : Meaning C V M) (code : C) (s : State) (i : ℕ) (fresh : List ℕ) (cells overlay : List (ℕ × Stored V)) (m : M) (n : ℕ) → IsAtStep meaning code s i fresh cells overlay m Side.Unprotected n
     → (total : ℕ) → (meaning.stage code m).steps + 1 ≡ total → n + 1 ≡ total
 as-counted meaning code s i fresh cells overlay m n a total count = ap (λ (k : ℕ). k + 1) (sym a.counted) ∙ count
-
--- The steps before the last
-
-module _ {C V M : Type 0} (meaning : Meaning C V M) (code : C) (fresh : List ℕ) (told : List Loc) (as_told : fresh ≡ map (λ z. z.0) told) (cells overlay later : List (ℕ × Stored V)) (m o : M) (few : ℕ) (found : Walked)
-    (runs : (s : State) (i : ℕ) (side : Side) (n : ℕ) → IsAtStep meaning code s i (map (λ z. z.0) told) cells overlay m side n
-    → WalksAlong meaning code s i (map (λ z. z.0) told) cells later o side few found) where
-  pub goes-as : (s : State) (i : ℕ) (side : Side) (n : ℕ) → IsAtStep meaning code s i fresh cells overlay m side n → (w : Walked) → found ≡ w
-      → WalksAlong meaning code s i fresh cells later o side few w
-  goes-as s i side n a w is =
-      subst (λ (xs : List ℕ). WalksAlong meaning code s i xs cells later o side few w) (sym as_told)
-      (subst (WalksAlong meaning code s i (map (λ z. z.0) told) cells later o side few) is
-      (runs s i side n (subst (λ (xs : List ℕ). IsAtStep meaning code s i xs cells overlay m side n) as_told a)))
-
-  pub all-before : (want : Wants) → found ≡ walked.Whole want → (s : State) (i : ℕ) (side : Side) (n : ℕ) → IsAtStep meaning code s i fresh cells overlay m side n
-      → IsAtStep meaning code s i fresh cells later o side few × ((meaning.stage code o).want ≡ Some want)
-  all-before want is s i side n a = goes-as s i side n a (walked.Whole want) is
-
-  pub walks-on : (want : Wants) → found ≡ walked.Whole want → (s : State) (i : ℕ) → IsWalking meaning code s i fresh cells overlay m
-      → IsAtStep meaning code s i fresh cells later o (running_side (meaning.stage code m)) few × ((meaning.stage code o).want ≡ Some want)
-  walks-on want is s i w = all-before want is s i (running_side (meaning.stage code m)) (meaning.stage code m).steps (record { walking = w; runs_on = refl; counted = refl })

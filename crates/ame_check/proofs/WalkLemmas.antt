@@ -99,7 +99,7 @@ module _ {C V M : Type 0} (meaning : Meaning C V M) (code : C) (s : State) (i : 
         counted = refl;
       }
 
--- a machine has gone on, and has not made more than so many steps
+-- a machine has gone on, and has made at most this number of steps
 pub record HasGoneOn {C V M : Type 0} (meaning : Meaning C V M) (code : C) (fresh : List ℕ) (cells first now : List (ℕ × Stored V)) (m o : M) (steps : ℕ) : Type 0 where
   pub goes_on : (s : State) (i : ℕ) (side : Side) (n : ℕ) → IsAtStep meaning code s i fresh cells first m side n → IsAtStep meaning code s i fresh cells now o side (meaning.stage code o).steps
   pub under : (meaning.stage code o).steps ≤ steps
@@ -154,19 +154,17 @@ module _ {C V M : Type 0} (meaning : Meaning C V M) (code : C) (fresh : List ℕ
 pub fewer-left : (before there after made steps : ℕ) → there ≡ before + made → after ≡ there + 1 → there < steps → steps - after < steps - before
 fewer-left before there after made steps a b below = omega arith
 
--- Whether all locations are used
+-- All locations are used, or not
 
 module _ {C V M : Type 0} (meaning : Meaning C V M) (code : C) (s : State) (i : ℕ) (fresh used : List Loc) (cells overlay : List (ℕ × Stored V)) (m : M) (side : Side) (n : ℕ)
-    (told : List ℕ) (as_told : told ≡ map (λ z. z.0) fresh) (as_used : map (λ z. z.0) used ≡ (meaning.stage code m).fresh) (a : IsAtStep meaning code s i (map (λ z. z.0) fresh) cells overlay m side n) where
+    (told : List ℕ) (as_told : told ≡ map (λ z. z.0) fresh) (as_used : map (λ z. z.0) used ≡ (meaning.stage code m).fresh) (a : IsAtStep meaning code s i told cells overlay m side n) where
   front-used : map (λ z. z.0) fresh ≡ map (λ z. z.0) used ++ a.walking.rest
-  front-used = a.walking.front ∙ ap (λ (xs : List ℕ). xs ++ a.walking.rest) (sym as_used)
+  front-used = sym as_told ∙ a.walking.front ∙ ap (λ (xs : List ℕ). xs ++ a.walking.rest) (sym as_used)
 
-  pub all-used : length fresh ≤ length used → IsAtStep meaning code s i told cells overlay m side n × ((meaning.stage code m).fresh ≡ told)
+  pub all-used : length fresh ≤ length used → (meaning.stage code m).fresh ≡ told
   all-used within =
-      let none = rest-none fresh used a.walking.rest front-used within in (
-        subst (λ (xs : List ℕ). IsAtStep meaning code s i xs cells overlay m side n) (sym as_told) a,
-        sym (append-nil (meaning.stage code m).fresh) ∙ ap (λ (xs : List ℕ). (meaning.stage code m).fresh ++ xs) (sym none) ∙ sym a.walking.front ∙ sym as_told,
-      )
+      let none = rest-none fresh used a.walking.rest front-used within in
+      sym (append-nil (meaning.stage code m).fresh) ∙ ap (λ (xs : List ℕ). (meaning.stage code m).fresh ++ xs) (sym none) ∙ sym a.walking.front
 
   pub some-left : length used < length fresh → steps_on side i n told None (begun_on side i s) ≡ None
   some-left below =
@@ -175,5 +173,5 @@ module _ {C V M : Type 0} (meaning : Meaning C V M) (code : C) (s : State) (i : 
       subst (λ (z : Side). steps_on z i n told None (begun_on z i s) ≡ None) a.runs_on
       (subst (λ (k : ℕ). steps_on (running_side (meaning.stage code m)) i k told None (begun_on (running_side (meaning.stage code m)) i s) ≡ None) a.counted
       (ap (λ (xs : List ℕ). steps_on (running_side (meaning.stage code m)) i (meaning.stage code m).steps xs None (begun_on (running_side (meaning.stage code m)) i s))
-      (as_told ∙ a.walking.front ∙ ap (λ (xs : List ℕ). (meaning.stage code m).fresh ++ xs) more.1)
+      (a.walking.front ∙ ap (λ (xs : List ℕ). (meaning.stage code m).fresh ++ xs) more.1)
       ∙ left-over (meaning.signature code) s i (running_side (meaning.stage code m)) (place_with a.walking.sets (meaning.stage code m)) (meaning.stage code m).steps g _ more.0 None))

@@ -69,11 +69,11 @@ module _ {C V M : Type 0} (meaning : Meaning C V M) (code : C) (sound : (m : M) 
   abbrev pub w : IsWalking meaning code s i fresh cells overlay m
   w = a.walking
 
-  -- what comes where a want is told
+  -- the act that comes if a want is known
   pub coming : (want : Wants) → (meaning.stage code m).want ≡ Some want → Comes (meaning.stage code m) (need_told want)
   coming want told = comes_as (meaning.stage code m) (need_told want) ((sound m w.machine).told want told)
 
-  -- where it wants anything else it isn't at a form that would become a value that is too high
+  -- if it wants anything else it isn't at a form that would become a value that is too high
   pub low-at : (want : Wants) → (meaning.stage code m).want ≡ Some want → (want ≡ wants.Tall → ⊥) → is_tall (running_side (meaning.stage code m)) i w.going.now ≡ true → ⊥
   low-at want told other tall =
       let low : is_tall (running_side (meaning.stage code m)) i w.going.now ≡ false =
@@ -237,7 +237,7 @@ module _ {C V M : Type 0} (meaning : Meaning C V M) (code : C) (sound : (m : M) 
       set-of : (act : Act) → HasNextAct (meaning.stage code m) act → value_to_set (meaning.stage code m) ≡ value_set (Some act)
       set-of act there = ap (λ (f : Focus). value_set (redex_act f)) there.1 ∙ ap (λ (z : Act). value_set (Some z)) there.2
 
-  -- What is accepted
+  -- Wants that are accepted
 
   pub accepted-spawn : (o : M) → (meaning.stage code m).want ≡ Some wants.Spawn → meaning.is_machine code o
       → after_input (meaning.stage code m).want Val.Unit (meaning.stage code m) ≡ Some (meaning.stage code o) → IsAtStep meaning code s i fresh cells overlay o side (n + 1)
@@ -251,7 +251,7 @@ module _ {C V M : Type 0} (meaning : Meaning C V M) (code : C) (sound : (m : M) 
       let comes = coming (wants.Print number) told in
       unset _ o _ (fed-print (meaning.signature code) s i w.sets (meaning.stage code m) (meaning.stage code o) w.going (low-at (wants.Print number) told (λ e. cc)) number comes.0 comes.1 (at_want o (wants.Print number) Val.Unit told e)) good w.front
 
-  -- What ends a walk
+  -- Wants that end a walk
 
   pub stopped-done : (meaning.stage code m).want ≡ Some wants.Done → (total : ℕ) → n < total → IsNoWalk side i total fresh s
   stopped-done told = stopped wants.Done told (λ e. cc) (λ used more e. halts-value (running_side (meaning.stage code m)) i w.going.now (meaning.stage code m).term w.going.member w.going.active used (coming wants.Done told).1)
@@ -280,7 +280,7 @@ module _ {C V M : Type 0} (meaning : Meaning C V M) (code : C) (sound : (m : M) 
       (subst (λ (k : ℕ). StaysLow (running_side (meaning.stage code m)) i k fresh s) a.counted
       (subst (λ (xs : List ℕ). StaysLow (running_side (meaning.stage code m)) i (meaning.stage code m).steps xs s) (sym w.front) (w.going.low w.rest)))
 
-  -- nor does a further one, where it wants anything else
+  -- nor does a further one, if it wants anything else
   pub last-low : (want : Wants) → (meaning.stage code m).want ≡ Some want → (want ≡ wants.Tall → ⊥) → StaysLow side i (n + 1) fresh s
   last-low want told other =
       subst (λ (z : Side). StaysLow z i (n + 1) fresh s) a.runs_on

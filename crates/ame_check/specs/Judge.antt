@@ -1,4 +1,4 @@
--- What a journal is judged to be.
+-- The judgment of a journal.
 use Rattle.std.specs.Prelude.{◌≡◌, ℕ, ◌-◌, ◌<◌, ◌≤◌, ℤ, List, [], ◌∷◌, ◌++◌, length, take, Some, None}
 use Rattle.ame_term.specs.Tree.{Tree}
 use Rattle.ame_journal.specs.Replayed.{Replayed}
@@ -8,6 +8,8 @@ use Rattle.ame_journal.specs.declared.entry.Entry.{Entry}
 use Rattle.ame_check.specs.Entries.{MeetsTall}
 use Rattle.ame_check.specs.Reasons.{IsMet}
 use Rattle.ame_check.specs.declared.reason.Reason.{Reason}
+use Rattle.ame_check.specs.declared.entry_error.EntryError.{EntryError}
+use Rattle.ame_check.specs.declared.entry_error.EntryError.TheVariants as error
 use Rattle.ame_check.specs.declared.halt.Halt.{Halt}
 use Rattle.ame_check.specs.declared.halt.Halt.TheVariants as halt
 use Rattle.ame_check.specs.declared.judging.Judged.{Judged}
@@ -26,6 +28,12 @@ pub record IsLong (entries : List Entry) (n : ℕ) : Type 0 where
   pub place : IsPlace entries n
   pub before : total_steps (take (n - 1) entries) ≤ most_steps
   pub above : most_steps < total_steps (take n entries)
+
+-- why a replay ends at the n-th entry
+abbrev pub halted_at : ℕ → EntryError → Halt
+halted_at n (error.Undefined why) = halt.Undefined n why
+halted_at n error.Tall = halt.Tall n
+halted_at n error.NoMemory = halt.NoMemory
 
 module _ (program : Tree) (entries : List Entry) where
   -- those before the n-th can be made, and it passes a form that would become a value that is too high

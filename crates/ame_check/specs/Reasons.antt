@@ -1,4 +1,4 @@
--- What a replay met where an entry can't be made.
+-- Reasons for which an entry can't be made.
 use Rattle.std.specs.Prelude.{◌≡◌, ℕ, ◌≤◌, ℤ, Bool, true, false, List, [], ◌∷◌, ◌++◌, Some, None, is_some}
 use Rattle.ame_term.specs.Tree.{Tree}
 use Rattle.ame_term.specs.Frame.{Side}
@@ -22,7 +22,7 @@ abbrev pub is_unprotected_side : Side → Bool
 is_unprotected_side Side.Protected = false
 is_unprotected_side Side.Unprotected = true
 
--- After k of some steps, which use the front of the locations, the member stands where it wants this.
+-- After k of some steps, which use a prefix of the locations, the member stands at a term at which it wants this.
 pub record ComesAt (side : Side) (s : State) (i : ℕ) (fresh : List ℕ) (total k : ℕ) (want : Wants) (rest : List ℕ) (now : State) : Type 0 where
   pub few : k ≤ total
   pub used : List ℕ

@@ -1,4 +1,4 @@
--- What the cells and members of a replay on machines show of a replayed state.
+-- The cells and members of a replay on machines show a replayed state.
 use Rattle.std.specs.Prelude.{◌≡◌, ◌<◌, ◌+◌, [], All, length, ℕ, ℤ, Bool, List, Option, Some, None}
 use Rattle.ame_term.specs.Tree.{Typ, Val, Tree}
 use Rattle.ame_term.specs.Signature.{Signature, MayStore}
@@ -23,11 +23,11 @@ pub record ReplayView (V M : Type 0) : Type 0 where
   pub output : List ℤ
   pub next : ℕ
 
--- a location has this sort and a type, of which the `ref` form with this number may store values
+-- a location has this sort and a type whose values the `ref` form with this number may store
 abbrev pub HasForm : Signature → StoreTyping → ℕ → Sort → TyNo → Type 0
 HasForm signature types l sort number = (content : Typ) × (types l ≡ Some (sort, content)) × MayStore signature.refs number.0 content
 
--- each location that has a cell has the cell's sort, and a type of which the cell's `ref` form may store values
+-- each location that has a cell has the cell's sort, and a type whose values the cell's `ref` form may store
 abbrev pub HaveForms : {V : Type 0} → Signature → StoreTyping → List (ℕ × Stored V) → Type 0
 HaveForms {V} signature types cells = (l : ℕ) (cell : Stored V) → at cells l ≡ Some cell → HasForm signature types l cell.sort cell.number
 
@@ -35,7 +35,7 @@ HaveForms {V} signature types cells = (l : ℕ) (cell : Stored V) → at cells l
 abbrev pub AreBelow : {V : Type 0} → ℕ → List (ℕ × Stored V) → Type 0
 AreBelow {V} most cells = (l : ℕ) (cell : Stored V) → at cells l ≡ Some cell → l < most
 
--- so is each new location that an entry tells
+-- so is each new location of an entry
 abbrev pub TellBelow : ℕ → List Entry → Type 0
 TellBelow most entries = All (λ entry. All (λ l. l < most) entry.fresh) entries
 
@@ -62,7 +62,7 @@ module _ {C V M : Type 0} (meaning : Meaning C V M) (code : C) where
   abbrev pub ShowsCells : List (ℕ × Stored V) → List (ℕ × Val) → Type 0
   ShowsCells cells store = (l : ℕ) → ShowsValue (at cells l) (at store l)
 
-  -- machines by number show members, of which these are inside
+  -- machines by number show members, and these of them are inside
   abbrev pub ShowsMembers : (ℕ → Bool) → List (ℕ × M) → List (ℕ × Tree) → Type 0
   ShowsMembers inside machines members = (k : ℕ) → ShowsMember (inside k) (at machines k) (at members k)
 
@@ -74,7 +74,7 @@ module _ {C V M : Type 0} (meaning : Meaning C V M) (code : C) where
     pub next : place.next ≡ r.state.next
 
   -- The entries can be replayed, and the state to which they lead is shown. Some types of locations type it, by which each
-  -- cell has its sort, and a type of which its `ref` form may store values; and each cell is at a new location of an entry.
+  -- cell has its sort, and a type whose values its `ref` form may store; and each cell is at a new location of an entry.
   pub record StandsForEntries (entries : List Entry) (place : ReplayView V M) : Type 0 where
     pub led : Replayed
     pub replayed : replay (meaning.program code) entries ≡ Some led

@@ -1,4 +1,4 @@
--- Where a member stands after steps of its own.
+-- The place of a member after steps of its own.
 use Rattle.std.specs.Prelude.{◌≡◌, ℕ, ◌<◌, ◌≤◌, List, Some}
 use Rattle.ame_term.specs.Frame.{Side}
 use Rattle.ame_term.specs.Maps.{at, put}
@@ -20,9 +20,14 @@ pub record ReadsAfter (side : Side) (s : State) (i : ℕ) (fresh : List ℕ) (to
   pub now : State
   pub comes : ComesAt side s i fresh total k (wants.Read (record { 0 = l })) rest now
 
--- for each location that is told, one of these steps reads it
+-- each location in the list is read by one of these steps
 abbrev pub TellsReads : Side → State → ℕ → List ℕ → ℕ → List (ℕ × ℕ) → Type 0
 TellsReads side s i fresh total reads = (l k : ℕ) → at reads l ≡ Some k → ReadsAfter side s i fresh total l k
+
+-- each location that one of the first steps reads is in the list, with the last step that reads it
+abbrev pub TellsEachRead : Side → State → ℕ → List ℕ → ℕ → ℕ → List (ℕ × ℕ) → Type 0
+TellsEachRead side s i fresh total most reads =
+    (l k : ℕ) → k < most → ReadsAfter side s i fresh total l k → (last : ℕ) × (at reads l ≡ Some last) × (k ≤ last)
 
 -- with a location that is read after k steps
 abbrev pub with_read : Wants → ℕ → List (ℕ × ℕ) → List (ℕ × ℕ)
@@ -30,15 +35,16 @@ with_read (wants.Read l) k reads = put reads l.0 k
 with_read _ k reads = reads
 
 module _ {C V M : Type 0} (meaning : Meaning C V M) (code : C) where
-  -- a machine has made at most so many of some steps, and these were read
+  -- a machine has made at most this number of some steps, and these were read, and no others
   pub record WatchedSteps (s : State) (i : ℕ) (fresh : List ℕ) (cells overlay : List (ℕ × Stored V)) (machine : M) (side : Side) (total most : ℕ) (reads : List (ℕ × ℕ)) : Type 0 where
     pub made : ℕ
     pub few : made ≤ most
     pub stands : IsAtStep meaning code s i fresh cells overlay machine side made
     pub told : TellsReads side s i fresh total reads
+    pub each : TellsEachRead side s i fresh total most reads
 
-  -- Behind entries, the steps of a further one lead its member to a term, at which this machine stands and wants this, and read
-  -- these locations.
+  -- After entries, the steps of a further one lead its member to a term, at which this machine stands and wants this. They read
+  -- these locations, and no others: each is listed with the last step that read it.
   pub record StandsAt (entries : List Entry) (entry : Entry) (machine : M) (want : Wants) (reads : List (ℕ × ℕ)) : Type 0 where
     pub led : Replayed
     pub replayed : replay (meaning.program code) entries ≡ Some led
@@ -48,3 +54,4 @@ module _ {C V M : Type 0} (meaning : Meaning C V M) (code : C) where
     pub member : at now.members entry.number ≡ Some (meaning.stage code machine).term
     pub wants : (meaning.stage code machine).want ≡ Some want
     pub told : TellsReads (side_at entry.number led.state) led.state entry.number entry.fresh entry.steps reads
+    pub each : TellsEachRead (side_at entry.number led.state) led.state entry.number entry.fresh entry.steps entry.steps reads

@@ -1,5 +1,4 @@
--- How far the steps of one entry have come. The strong state itself is kept, and that the entry's steps lead to it
--- whatever follows.
+-- The progress of the steps of one entry: the strong state itself, to which the entry's steps lead whatever follows.
 use Rattle.std.specs.Prelude.{◌≡◌, ℕ, ◌+◌, ◌≤◌, ◌<◌, ℤ, true, List, ◌++◌, Option, Some, None}
 use Rattle.ame_term.specs.Frame.{Side}
 use Rattle.ame_term.specs.Maps.{at}
@@ -25,7 +24,7 @@ abbrev pub active_on : Side → ℕ → Option ℕ
 active_on Side.Protected i = Some i
 active_on Side.Unprotected i = None
 
--- where the first of them is made
+-- the state in which the first of them is made
 abbrev pub begun_on : Side → ℕ → State → State
 begun_on side i s = record s { active = active_on side i }
 
@@ -38,7 +37,7 @@ abbrev pub LeadsOnTo : Side → ℕ → ℕ → List ℕ → State → State →
 LeadsOnTo side i n used s t =
     (left : ℕ) (rest : List ℕ) (answer : Option ℤ) → steps_on side i (n + left) (used ++ rest) answer s ≡ steps_on side i left rest answer t
 
--- No further step can be made in a state with what is left of the locations, and with an answer only where one step is left.
+-- No further step can be made in a state with what is left of the locations, and with an answer only if one step is left.
 abbrev pub Halts : Side → ℕ → State → List ℕ → Type 0
 Halts side i s rest = (left : ℕ) (answer : Option ℤ) → (left ≡ 0 → answer ≡ None) → steps_on side i (left + 1) rest answer s ≡ None
 
@@ -58,7 +57,7 @@ abbrev pub StaysLow : Side → ℕ → ℕ → List ℕ → State → Type 0
 StaysLow side i n fresh s = ComesToTall side i n fresh s → ⊥
 
 -- From a state n steps of a member, and a place p of its run: the state that is reached is the one after that run, typed by these types. None of the
--- steps is at a form that would become a value that is too high, whatever locations are behind those of the run.
+-- steps is at a form that would become a value that is too high, whatever locations come after those of the run.
 pub record IsStepping (signature : Signature) (types : StoreTyping) (s : State) (i : ℕ) (side : Side) (p : LocalState) (n : ℕ) : Type 0 where
   pub now : State
   pub after_run : IsAfterRun s i p now
@@ -70,7 +69,7 @@ pub record IsStepping (signature : Signature) (types : StoreTyping) (s : State) 
   pub goes : LeadsOnTo side i n p.fresh (begun_on side i s) now
   pub low : (more : List ℕ) → StaysLow side i n (p.fresh ++ more) s
 
--- n steps with these locations can't be made from a state, nor more of them, where at most the last has an answer and is behind these;
+-- n steps with these locations can't be made from a state, nor more of them, if at most the last has an answer and comes after these;
 -- and however many can be made, they pass no form that would become a value that is too high
 pub record IsNoWalk (side : Side) (i n : ℕ) (fresh : List ℕ) (s : State) : Type 0 where
   pub never : (k : ℕ) (answer : Option ℤ) → n ≤ k → (k ≡ n → answer ≡ None) → steps_on side i k fresh answer (begun_on side i s) ≡ None

@@ -1,5 +1,5 @@
 -- A machine on the way through an entry's steps, with what it set laid over the cells.
-use Rattle.std.specs.Prelude.{◌≡◌, All, ℕ, ◌+◌, ◌<◌, ◌++◌, ℤ, Bool, true, false, List, Option, None, Some, ◌⊎◌}
+use Rattle.std.specs.Prelude.{◌≡◌, All, ℕ, ◌<◌, ◌++◌, ℤ, Bool, true, false, List, Option, None, Some, ◌⊎◌}
 use Rattle.ame_term.specs.Tree.{Val}
 use Rattle.ame_term.specs.Frame.{Side}
 use Rattle.ame_term.specs.State.{State}
@@ -15,10 +15,8 @@ use Rattle.ame_machine.specs.MachineView.{MachineView, running_side, place_shown
 use Rattle.ame_check.specs.Shows.{ShowsCells, HaveForms, AreBelow}
 use Rattle.ame_check.specs.Walk.{begun_on, steps_on, IsStepping, IsNoWalk, ComesToTall, StaysLow}
 use Rattle.ame_check.specs.Reasons.{MeetsReason}
-use Rattle.ame_check.specs.declared.walk.Walked.{Walked}
-use Rattle.ame_check.specs.declared.walk.Walked.TheVariants as walked
-use Rattle.ame_check.specs.declared.step.Took.{Took}
-use Rattle.ame_check.specs.declared.step.Took.TheVariants as took
+use Rattle.ame_check.specs.declared.entry_error.EntryError.{EntryError}
+use Rattle.ame_check.specs.declared.entry_error.EntryError.TheVariants as error
 use Rattle.ame_check.specs.declared.stored.Stored.{Stored}
 
 -- the place that a machine shows, with these values set
@@ -50,7 +48,7 @@ is_plain _ = true
 
 module _ {C V M : Type 0} (meaning : Meaning C V M) (code : C) where
   -- A machine of member i has come so far from a state whose store the cells show, with these locations to use in all. By the types of
-  -- the state that is reached each cell has its sort, and a type of which its `ref` form may store values; and what is set is at new locations, or at those of cells.
+  -- the state that is reached each cell has its sort, and a type whose values its `ref` form may store; and what is set is at new locations, or at those of cells.
   pub record IsWalking (s : State) (i : ℕ) (fresh : List ℕ) (cells overlay : List (ℕ × Stored V)) (m : M) : Type 0 where
     pub machine : meaning.is_machine code m
     pub early : i < s.next
@@ -65,28 +63,34 @@ module _ {C V M : Type 0} (meaning : Meaning C V M) (code : C) where
     pub rest : List ℕ
     pub front : fresh ≡ (meaning.stage code m).fresh ++ rest
 
-  -- it has made so many steps on a side
+  -- it has made this number of steps on a side
   pub record IsAtStep (s : State) (i : ℕ) (fresh : List ℕ) (cells overlay : List (ℕ × Stored V)) (m : M) (side : Side) (n : ℕ) : Type 0 where
     pub walking : IsWalking s i fresh cells overlay m
     pub runs_on : running_side (meaning.stage code m) ≡ side
     pub counted : (meaning.stage code m).steps ≡ n
 
   module _ (s : State) (i : ℕ) (fresh : List ℕ) (cells overlay : List (ℕ × Stored V)) (m : M) (side : Side) (n : ℕ) where
-    -- what a walk of n steps comes to
-    abbrev pub WalksAlong : Walked → Type 0
-    WalksAlong (walked.Whole want) = IsAtStep s i fresh cells overlay m side n × ((meaning.stage code m).want ≡ Some want)
-    WalksAlong (walked.Undefined why) = IsNoWalk side i n fresh s × MeetsReason side s i fresh n why
-    WalksAlong walked.Tall = ComesToTall side i n fresh s
+    -- after a walk of n steps this is wanted
+    abbrev pub WalksTo : Wants → Type 0
+    WalksTo want = IsAtStep s i fresh cells overlay m side n × ((meaning.stage code m).want ≡ Some want)
 
-    -- what the step behind n steps comes to
-    abbrev pub TakesTo : Took → Type 0
-    TakesTo took.Taken = IsAtStep s i fresh cells overlay m side (n + 1)
-    TakesTo (took.Undefined why) = (total : ℕ) → n < total → IsNoWalk side i total fresh s × MeetsReason side s i fresh total why
-    TakesTo took.Tall = (total : ℕ) → n < total → ComesToTall side i total fresh s
+    -- after a run of n steps, which used all the locations, this is wanted
+    abbrev pub RunsTo : Wants → Type 0
+    RunsTo want = IsAtStep s i fresh cells overlay m side n × ((meaning.stage code m).fresh ≡ fresh) × ((meaning.stage code m).want ≡ Some want)
 
-    -- what a run of n steps that is to use all the locations comes to
-    abbrev pub RunsAlong : Walked → Type 0
-    RunsAlong (walked.Whole want) =
-        IsAtStep s i fresh cells overlay m side n × ((meaning.stage code m).fresh ≡ fresh) × ((meaning.stage code m).want ≡ Some want)
-    RunsAlong (walked.Undefined why) = StaysLow side i n fresh s × (steps_on side i n fresh None (begun_on side i s) ≡ None) × MeetsReason side s i fresh n why
-    RunsAlong walked.Tall = ComesToTall side i n fresh s
+module _ (side : Side) (i n : ℕ) (fresh : List ℕ) (s : State) where
+  -- why a walk of n steps isn't made
+  abbrev pub StopsWalk : EntryError → Type 0
+  StopsWalk (error.Undefined why) = IsNoWalk side i n fresh s × MeetsReason side s i fresh n why
+  StopsWalk error.Tall = ComesToTall side i n fresh s
+  StopsWalk error.NoMemory = Unit {0}
+
+  -- why a run of n steps isn't made, which is to use all the locations
+  abbrev pub StopsRun : EntryError → Type 0
+  StopsRun (error.Undefined why) = StaysLow side i n fresh s × (steps_on side i n fresh None (begun_on side i s) ≡ None) × MeetsReason side s i fresh n why
+  StopsRun error.Tall = ComesToTall side i n fresh s
+  StopsRun error.NoMemory = Unit {0}
+
+-- why the step after n steps isn't made, however many are to follow
+abbrev pub StopsStep : Side → ℕ → ℕ → List ℕ → State → EntryError → Type 0
+StopsStep side i n fresh s e = (total : ℕ) → n < total → StopsWalk side i total fresh s e

@@ -4,7 +4,7 @@ ghost use Rattle.std.specs.Prelude.{◌≡◌, ◌≢◌, ℕ, ◌≤◌, ◌<�
 ghost use Rattle.ame_check.specs.Input as spec;
 ghost use Rattle.ame_check.specs.Input.{HasProgramLine, IsSplit};
 
-/// Whether a line begins at a place.
+/// Returns whether a line begins at a place.
 fn begins_line(bytes: &[u8], at: usize) -> bool
     requires within { at ≤ length bytes.now }
     ensures { result ≡ spec.begins_line bytes.now at }
@@ -12,14 +12,14 @@ fn begins_line(bytes: &[u8], at: usize) -> bool
     at == 0 || bytes[at - 1] == b'\n'
 }
 
-/// The text behind the line `program`, if that comes first.
+/// Returns the text after the line `program`, if that comes first.
 fn behind_line(text: &[u8]) -> Option<&[u8]>
     ensures { MatchOption result ((rest : List ℕ) → text.now ≢ codes "program\n" ++ rest) (λ rest. text.now ≡ codes "program\n" ++ rest.now) }
 {
     text.strip_prefix(b"program\n")
 }
 
-/// Whether the line that begins at a place is `program`.
+/// Returns whether the line that begins at a place is `program`.
 fn has_line(bytes: &[u8], at: usize) -> bool
     requires within { at ≤ length bytes.now }
     ensures yes { IsTrue result → HasProgramLine bytes.now at }
@@ -34,8 +34,8 @@ fn has_line(bytes: &[u8], at: usize) -> bool
     }
 }
 
-/// How many bytes are a journal's text, and where the program's text starts: around the first line that is exactly `program`
-/// with its line feed, if there is one. Takes no memory, and looks once at each byte.
+/// Returns the length of the journal's text, and the start of the program's: before and after the first line that is exactly
+/// `program` with its line feed, if there is one. Takes no memory, and looks once at each byte.
 pub fn split_input(bytes: &[u8]) -> Option<(usize, usize)>
     ensures { MatchOption result ((k : ℕ) → HasProgramLine bytes.now k → ⊥) (λ split. IsSplit bytes.now split.0 split.1) }
 {

@@ -15,7 +15,7 @@ use std::alloc::Global;
 /// The most steps and entries together that a journal may have to be judged.
 pub const MOST_STEPS: u64 = 100_000_000;
 
-/// What a journal is judged to be. Entries are counted from 1.
+/// The judgment of a journal. Entries are counted from 1.
 #[derive(Drop)]
 pub enum Judged {
     /// It is the journal of a run of the program, which printed this.
@@ -28,7 +28,7 @@ pub enum Judged {
     Tall(u64),
 }
 
-/// The first entry with which the steps and entries are more than `MOST_STEPS`.
+/// Returns the first entry with which the steps and entries are more than `MOST_STEPS`.
 fn too_long(entries: &[Entry]) -> Option<u64>
     ensures { MatchOption result (total_steps entries.now ≤ most_steps) (IsLong entries.now) }
 {

@@ -10,33 +10,22 @@ ghost use Rattle.ame_machine.specs.Run.AgreesWith.{with_members};
 ghost use Rattle.ame_journal.specs.declared.entry.Entry.{Entry};
 ghost use Rattle.ame_journal.specs.declared.entry.EntryKind.{EntryKind};
 ghost use Rattle.ame_journal.specs.Totals.{is_note};
-ghost use Rattle.ame_check.specs.Entries.{is_confirmed, noted_as};
+ghost use Rattle.ame_check.specs.Entries.{is_confirmed};
 ghost use Rattle.ame_check.specs.Reasons.{is_shut};
 ghost use Rattle.ame_check.specs.Shows.{ShowsMembers, Adopts};
 
+use crate::entry_error::EntryError;
 use crate::halt::Halt;
 use crate::reason::Reason;
 use crate::stored::Stored;
-use crate::visit::Visited;
-use crate::walk::{Walked, run};
+use crate::walk::Walk;
 use ame_journal::{Entry, EntryKind};
 use ame_machine::{Runner, Wants};
 use ame_term::{Copied, NoMemory};
 use std::alloc::Global;
 use std::collections::BTreeMap;
 
-/// What a replay comes to at an entry.
-#[derive(Clone, Copy, PartialEq, Eq, Debug)]
-pub enum Made {
-    /// The entry was made.
-    Made,
-    /// It can't be made here.
-    Undefined(Reason),
-    /// It passes a form whose value would be too high.
-    Tall,
-}
-
-/// Whether a note of a kind tells that its member wants this next.
+/// Returns whether a note of a kind says that its member wants this next.
 fn confirms(kind: EntryKind, want: Wants) -> bool
     ensures { result ≡ is_confirmed kind want }
 {
@@ -54,30 +43,13 @@ fn confirms(kind: EntryKind, want: Wants) -> bool
     }
 }
 
-/// Whether a note of a kind is shut to a member, by whether that stands at `unprotected`.
+/// Returns whether a note of a kind is shut to a member, by whether that stands at `unprotected`.
 fn shuts(kind: EntryKind, standing: bool) -> bool
     ensures { result ≡ is_shut kind standing }
 {
     match kind {
         EntryKind::Stuck => standing,
         EntryKind::Ran | EntryKind::Free | EntryKind::Cut | EntryKind::Tall => false,
-    }
-}
-
-/// Returns what a note of a kind and of so many steps comes to, by what these came to.
-fn noted(kind: EntryKind, steps: u64, walked: Walked) -> Made
-    ensures { result ≡ noted_as kind steps walked }
-{
-    match walked {
-        Walked::Whole(want) => {
-            if confirms(kind, want) {
-                Made::Made
-            } else {
-                Made::Undefined(Reason::Stops(steps, want))
-            }
-        }
-        Walked::Undefined(why) => Made::Undefined(why),
-        Walked::Tall => Made::Tall,
     }
 }
 
@@ -94,7 +66,7 @@ fn merge<V: Drop>(
     Ok(())
 }
 
-/// Gives each new member of a machine the next number. A number past the last one is told as want of memory.
+/// Gives each new member of a machine the next number. If a number would be past the last one, the error is that memory ran out.
 fn adopt<M: Runner>(
     alloc: Global,
     _code: &M::Code,
@@ -147,10 +119,10 @@ where
     M::Code: Drop,
 {
     ghost use Rattle.ame_check.specs.Shows.{StandsForEntries};
-    ghost use Rattle.ame_check.specs.Entries.{CameOf};
+    ghost use Rattle.ame_check.specs.Entries.{HasMade, StopsAt};
     ghost use Rattle.ame_check.specs.Judge.{IsHalted, PassesTallAt};
 
-    /// Before any entry.
+    /// Starts before any entry.
     pub fn start(alloc: Global, code: &M::Code) -> Result<Replay<M>, NoMemory>
         ensures { IfOk result (λ replay. StandsForEntries M.meaning code.now []
             (record { cells = replay.cells.entries; members = replay.members.entries; output = replay.output.items; next = replay.next })) }
@@ -186,115 +158,140 @@ where
         Ok(())
     }
 
-    /// A `Ran` entry: the whole fragment, up to its end or its next `unprotected`. Where it can't be made, or passes a form whose
-    /// value would be too high, the replay is over: the member was taken out. Costs its steps, each at most the logarithm of the
-    /// cells, and that of the members for each new one.
-    pub fn ran(&mut self, alloc: Global, code: &M::Code, entry: &Entry) -> Result<Made, NoMemory>
+    /// Makes a `Ran` entry: the whole fragment, up to its end or its next `unprotected`. After an error the replay is over, since the
+    /// member was taken out. Costs its steps, each at most the logarithm of the cells, and that of the members for each new one.
+    pub fn ran(&mut self, alloc: Global, code: &M::Code, entry: &Entry) -> Result<(), EntryError>
         requires kind { entry.now.kind ≡ EntryKind.Ran }
         requires stands { (entries : List Entry) × StandsForEntries M.meaning code.now entries
             (record { cells = self.old.cells.entries; members = self.old.members.entries; output = self.old.output.items; next = self.old.next }) }
-        ensures { IfOk result (λ made. (entries : List Entry) → StandsForEntries M.meaning code.now entries
+        ensures made { OnOk result ((entries : List Entry) → StandsForEntries M.meaning code.now entries
             (record { cells = self.old.cells.entries; members = self.old.members.entries; output = self.old.output.items; next = self.old.next })
-            → CameOf M.meaning code.now entries entry.now
-            (record { cells = self.new.cells.entries; members = self.new.members.entries; output = self.new.output.items; next = self.new.next }) made) }
+            → HasMade M.meaning code.now entries entry.now
+            (record { cells = self.new.cells.entries; members = self.new.members.entries; output = self.new.output.items; next = self.new.next })) }
+        ensures halted { IfErr result (λ error. (entries : List Entry) → StandsForEntries M.meaning code.now entries
+            (record { cells = self.old.cells.entries; members = self.old.members.entries; output = self.old.output.items; next = self.old.next })
+            → StopsAt (M.meaning.program code.now) entries entry.now error) }
     {
         if entry.answer.is_some() {
-            return Ok(Made::Undefined(Reason::Answered));
+            return Err(EntryError::Undefined(Reason::Answered));
         }
         let Some(mut machine) = self.members.remove(&entry.number) else {
-            return Ok(Made::Undefined(Reason::NoMember));
+            return Err(EntryError::Undefined(Reason::NoMember));
         };
         if machine.inside() {
-            return Ok(Made::Undefined(Reason::Inside));
+            return Err(EntryError::Undefined(Reason::Inside));
         }
         let mut overlay = BTreeMap::new(alloc);
-        match run(alloc, code, &self.cells, entry, &mut overlay, &mut machine)? {
-            Walked::Whole(want) => match want {
-                Wants::Done => {
-                    self.keep(alloc, code, overlay, &mut machine)?;
-                    Ok(Made::Made)
-                }
-                Wants::Leave => {
-                    self.keep(alloc, code, overlay, &mut machine)?;
-                    machine.settle();
-                    self.members.insert(entry.number, machine)?;
-                    Ok(Made::Made)
-                }
-                _ => Ok(Made::Undefined(Reason::Stops(entry.steps, want))),
-            },
-            Walked::Undefined(why) => Ok(Made::Undefined(why)),
-            Walked::Tall => Ok(Made::Tall),
+        let want = Walk {
+            alloc,
+            code,
+            cells: &self.cells,
+            entry,
         }
-    }
-
-    /// A `Free` entry: steps under `unprotected`, of which the last may call a device or close. Otherwise as `ran`.
-    pub fn free(&mut self, alloc: Global, code: &M::Code, entry: &Entry) -> Result<Made, NoMemory>
-        requires kind { entry.now.kind ≡ EntryKind.Free }
-        requires stands { (entries : List Entry) × StandsForEntries M.meaning code.now entries
-            (record { cells = self.old.cells.entries; members = self.old.members.entries; output = self.old.output.items; next = self.old.next }) }
-        ensures { IfOk result (λ made. (entries : List Entry) → StandsForEntries M.meaning code.now entries
-            (record { cells = self.old.cells.entries; members = self.old.members.entries; output = self.old.output.items; next = self.old.next })
-            → CameOf M.meaning code.now entries entry.now
-            (record { cells = self.new.cells.entries; members = self.new.members.entries; output = self.new.output.items; next = self.new.next }) made) }
-    {
-        if entry.steps == 0 {
-            return Ok(Made::Undefined(Reason::NoSteps));
-        }
-        let Some(mut machine) = self.members.remove(&entry.number) else {
-            return Ok(Made::Undefined(Reason::NoMember));
-        };
-        if !machine.inside() {
-            return Ok(Made::Undefined(Reason::Outside));
-        }
-        let mut overlay = BTreeMap::new(alloc);
-        match self.visit(alloc, code, entry, &mut overlay, &mut machine)? {
-            Visited::Stays | Visited::Closes => {
+        .run(&mut overlay, &mut machine)?;
+        match want {
+            Wants::Done => {
+                self.keep(alloc, code, overlay, &mut machine)?;
+                Ok(())
+            }
+            Wants::Leave => {
                 self.keep(alloc, code, overlay, &mut machine)?;
                 machine.settle();
                 self.members.insert(entry.number, machine)?;
-                Ok(Made::Made)
+                Ok(())
             }
-            Visited::Undefined(why) => Ok(Made::Undefined(why)),
-            Visited::Tall => Ok(Made::Tall),
+            _ => Err(EntryError::Undefined(Reason::Stops(entry.steps, want))),
         }
     }
 
-    /// A note (`Stuck`, `Cut`, `Tall`), on a copy of its member's machine. One that stands at `unprotected` makes its steps there,
+    /// Makes a `Free` entry: steps under `unprotected`, whose last may call a device or close. Otherwise as `ran`.
+    pub fn free(&mut self, alloc: Global, code: &M::Code, entry: &Entry) -> Result<(), EntryError>
+        requires kind { entry.now.kind ≡ EntryKind.Free }
+        requires stands { (entries : List Entry) × StandsForEntries M.meaning code.now entries
+            (record { cells = self.old.cells.entries; members = self.old.members.entries; output = self.old.output.items; next = self.old.next }) }
+        ensures made { OnOk result ((entries : List Entry) → StandsForEntries M.meaning code.now entries
+            (record { cells = self.old.cells.entries; members = self.old.members.entries; output = self.old.output.items; next = self.old.next })
+            → HasMade M.meaning code.now entries entry.now
+            (record { cells = self.new.cells.entries; members = self.new.members.entries; output = self.new.output.items; next = self.new.next })) }
+        ensures halted { IfErr result (λ error. (entries : List Entry) → StandsForEntries M.meaning code.now entries
+            (record { cells = self.old.cells.entries; members = self.old.members.entries; output = self.old.output.items; next = self.old.next })
+            → StopsAt (M.meaning.program code.now) entries entry.now error) }
+    {
+        if entry.steps == 0 {
+            return Err(EntryError::Undefined(Reason::NoSteps));
+        }
+        let Some(mut machine) = self.members.remove(&entry.number) else {
+            return Err(EntryError::Undefined(Reason::NoMember));
+        };
+        if !machine.inside() {
+            return Err(EntryError::Undefined(Reason::Outside));
+        }
+        let mut overlay = BTreeMap::new(alloc);
+        Walk {
+            alloc,
+            code,
+            cells: &self.cells,
+            entry,
+        }
+        .visit(&mut overlay, &mut machine)?;
+        self.keep(alloc, code, overlay, &mut machine)?;
+        machine.settle();
+        self.members.insert(entry.number, machine)?;
+        Ok(())
+    }
+
+    /// Makes a note (`Stuck`, `Cut`, `Tall`), on a copy of its member's machine. A member at `unprotected` makes its steps there,
     /// and no `Stuck` note is of it. Nothing changes. Costs a copy of the machine, and its steps.
-    pub fn note(&self, alloc: Global, code: &M::Code, entry: &Entry) -> Result<Made, NoMemory>
+    pub fn note(&self, alloc: Global, code: &M::Code, entry: &Entry) -> Result<(), EntryError>
         requires note { is_note entry.now.kind ≡ true }
         requires stands { (entries : List Entry) × StandsForEntries M.meaning code.now entries
             (record { cells = self.now.cells.entries; members = self.now.members.entries; output = self.now.output.items; next = self.now.next }) }
-        ensures { IfOk result (λ made. (entries : List Entry) → StandsForEntries M.meaning code.now entries
+        ensures made { OnOk result ((entries : List Entry) → StandsForEntries M.meaning code.now entries
             (record { cells = self.now.cells.entries; members = self.now.members.entries; output = self.now.output.items; next = self.now.next })
-            → CameOf M.meaning code.now entries entry.now
-            (record { cells = self.now.cells.entries; members = self.now.members.entries; output = self.now.output.items; next = self.now.next }) made) }
+            → HasMade M.meaning code.now entries entry.now
+            (record { cells = self.now.cells.entries; members = self.now.members.entries; output = self.now.output.items; next = self.now.next })) }
+        ensures halted { IfErr result (λ error. (entries : List Entry) → StandsForEntries M.meaning code.now entries
+            (record { cells = self.now.cells.entries; members = self.now.members.entries; output = self.now.output.items; next = self.now.next })
+            → StopsAt (M.meaning.program code.now) entries entry.now error) }
     {
         if entry.answer.is_some() {
-            return Ok(Made::Undefined(Reason::Answered));
+            return Err(EntryError::Undefined(Reason::Answered));
         }
         let Some(member) = self.members.get(&entry.number) else {
-            return Ok(Made::Undefined(Reason::NoMember));
+            return Err(EntryError::Undefined(Reason::NoMember));
         };
         let mut machine = member.copy(alloc)?;
         let _next = machine.advance(alloc, code, 0)?;
         machine.settle();
         if shuts(entry.kind, machine.inside()) {
-            return Ok(Made::Undefined(Reason::Inside));
+            return Err(EntryError::Undefined(Reason::Inside));
         }
         let mut overlay = BTreeMap::new(alloc);
-        let walked = run(alloc, code, &self.cells, entry, &mut overlay, &mut machine)?;
-        Ok(noted(entry.kind, entry.steps, walked))
+        let want = Walk {
+            alloc,
+            code,
+            cells: &self.cells,
+            entry,
+        }
+        .run(&mut overlay, &mut machine)?;
+        if confirms(entry.kind, want) {
+            Ok(())
+        } else {
+            Err(EntryError::Undefined(Reason::Stops(entry.steps, want)))
+        }
     }
 
-    /// One more entry.
-    pub fn make(&mut self, alloc: Global, code: &M::Code, entry: &Entry) -> Result<Made, NoMemory>
+    /// Makes one more entry.
+    pub fn make(&mut self, alloc: Global, code: &M::Code, entry: &Entry) -> Result<(), EntryError>
         requires stands { (entries : List Entry) × StandsForEntries M.meaning code.now entries
             (record { cells = self.old.cells.entries; members = self.old.members.entries; output = self.old.output.items; next = self.old.next }) }
-        ensures { IfOk result (λ made. (entries : List Entry) → StandsForEntries M.meaning code.now entries
+        ensures made { OnOk result ((entries : List Entry) → StandsForEntries M.meaning code.now entries
             (record { cells = self.old.cells.entries; members = self.old.members.entries; output = self.old.output.items; next = self.old.next })
-            → CameOf M.meaning code.now entries entry.now
-            (record { cells = self.new.cells.entries; members = self.new.members.entries; output = self.new.output.items; next = self.new.next }) made) }
+            → HasMade M.meaning code.now entries entry.now
+            (record { cells = self.new.cells.entries; members = self.new.members.entries; output = self.new.output.items; next = self.new.next })) }
+        ensures halted { IfErr result (λ error. (entries : List Entry) → StandsForEntries M.meaning code.now entries
+            (record { cells = self.old.cells.entries; members = self.old.members.entries; output = self.old.output.items; next = self.old.next })
+            → StopsAt (M.meaning.program code.now) entries entry.now error) }
     {
         match entry.kind {
             EntryKind::Ran => self.ran(alloc, code, entry),
@@ -303,7 +300,7 @@ where
         }
     }
 
-    /// The end of all entries. Costs what their run did, with the logarithm of cells and members for each access.
+    /// Replays all entries. Costs what their run did, with the logarithm of cells and members for each access.
     pub fn along(alloc: Global, code: &M::Code, entries: &[Entry]) -> Result<Replay<M>, Halt>
         ensures led { IfOk result (λ replay. StandsForEntries M.meaning code.now entries.now
             (record { cells = replay.cells.entries; members = replay.members.entries; output = replay.output.items; next = replay.next })) }
@@ -314,16 +311,14 @@ where
         let mut place: u64 = 0;
         for entry in entries {
             place += 1;
-            match replay.make(alloc, code, entry)? {
-                Made::Made => {}
-                Made::Undefined(why) => return Err(Halt::Undefined(place, why)),
-                Made::Tall => return Err(Halt::Tall(place)),
+            if let Err(error) = replay.make(alloc, code, entry) {
+                return Err(error.at(place));
             }
         }
         Ok(replay)
     }
 
-    /// Its cells, its members, what was printed, and the number of the next new member.
+    /// Returns its cells, its members, what was printed, and the number of the next new member.
     pub fn into_parts(
         self,
     ) -> (
@@ -343,7 +338,7 @@ where
         (cells, members, output, next)
     }
 
-    /// What was printed.
+    /// Returns what was printed.
     pub fn into_output(self) -> Vec<i64>
         ensures { result ≡ self.output }
     {

@@ -6,8 +6,8 @@ ghost use Rattle.ame_journal.specs.declared.entry.Entry.{Entry};
 ghost use Rattle.ame_check.specs.Judge.{Judges, AreAlike};
 ghost use Rattle.ame_check.specs.declared.judging.Judged.{Judged};
 
-/// A journal is judged in one way: the conditions of the four answers exclude each other, and each of them holds at one place alone.
-/// Of an invalid one the reason alone may be told in more than one way.
+/// Says that a journal is judged in one way: the conditions of the four answers exclude each other, and each of them holds at one place alone.
+/// An invalid one may have several reasons.
 pub fn journals_are_judged_in_one_way()
     ensures { (program : Tree) (entries : List Entry) (one other : Judged)
         → Judges program entries one → Judges program entries other → AreAlike one other }

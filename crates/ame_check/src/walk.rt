@@ -1,87 +1,96 @@
 //! The steps of one entry.
 
-ghost use Rattle.std.specs.Prelude.{◌≡◌, ℕ, ◌≤◌, map, IfOk};
+ghost use Rattle.std.specs.Prelude.{◌≡◌, ℕ, ◌≤◌, IfErr, IfOk};
 ghost use Rattle.ame_term.specs.Frame.{Side};
 ghost use Rattle.ame_term.specs.State.{State};
-ghost use Rattle.ame_check.specs.Walked.{IsWalking, IsAtStep, WalksAlong, RunsAlong};
+ghost use Rattle.ame_check.specs.Walked.{IsWalking, IsAtStep, WalksTo, RunsTo, StopsWalk, StopsRun};
 
+use crate::entry_error::EntryError;
 use crate::reason::Reason;
-use crate::step::{Took, take};
 use crate::stored::Stored;
 use ame_journal::Entry;
 use ame_machine::{Runner, Wants};
-use ame_term::{Loc, NoMemory};
+use ame_term::NoMemory;
 use std::alloc::Global;
 use std::collections::BTreeMap;
 
-/// What a walk comes to.
-#[derive(Clone, Copy, PartialEq, Eq, Debug)]
-pub enum Walked {
-    /// All steps were made, and this is wanted next.
-    Whole(Wants),
-    /// They can't be made.
-    Undefined(Reason),
-    /// A form before the last step would become a value that is too high.
-    Tall,
+/// An entry, and what its steps are made over. What they set is laid over the cells, which stay.
+pub(crate) struct Walk<'a, M: Runner>
+where
+    M::Code: Drop,
+{
+    pub(crate) alloc: Global,
+    pub(crate) code: &'a M::Code,
+    pub(crate) cells: &'a BTreeMap<u32, Stored<M::Value>>,
+    pub(crate) entry: &'a Entry,
 }
 
-/// Makes the steps up to this count. What they set is laid over the cells, which stay.
-pub fn walk<M: Runner>(
-    alloc: Global,
-    code: &M::Code,
-    cells: &BTreeMap<u32, Stored<M::Value>>,
-    fresh: &[Loc],
-    overlay: &mut BTreeMap<u32, Stored<M::Value>>,
-    machine: &mut M,
-    steps: u64,
-) -> Result<Walked, NoMemory>
-    requires walking { (s : State) × (i : ℕ)
-        × IsWalking M.meaning code.now s i (map (λ l. l.0) fresh.now) cells.now.entries overlay.old.entries machine.old }
-    requires below { (M.meaning.stage code.now machine.old).steps ≤ steps }
-    ensures { IfOk result (λ walked. (s : State) (i : ℕ) (side : Side) (n : ℕ)
-        → IsAtStep M.meaning code.now s i (map (λ l. l.0) fresh.now) cells.now.entries overlay.old.entries machine.old side n
-        → WalksAlong M.meaning code.now s i (map (λ l. l.0) fresh.now) cells.now.entries overlay.new.entries machine.new side steps walked) }
+impl<'a, M: Runner> Drop for Walk<'a, M>
+where
+    M::Code: Drop,
 {
-    'walk: loop {
-        let want = machine.advance(alloc, code, steps - machine.steps())?;
-        if machine.steps() == steps {
-            return Ok(Walked::Whole(want));
-        }
-        match take(alloc, code, cells, fresh, overlay, machine, want)? {
-            Took::Taken => {}
-            Took::Undefined(why) => return Ok(Walked::Undefined(why)),
-            Took::Tall => return Ok(Walked::Tall),
-        }
+    fn drop(self) {
+        let Walk {
+            alloc: _,
+            code: _,
+            cells: _,
+            entry: _,
+        } = self;
     }
 }
 
-/// Makes all steps of an entry, with exactly the locations that it tells.
-pub fn run<M: Runner>(
-    alloc: Global,
-    code: &M::Code,
-    cells: &BTreeMap<u32, Stored<M::Value>>,
-    entry: &Entry,
-    overlay: &mut BTreeMap<u32, Stored<M::Value>>,
-    machine: &mut M,
-) -> Result<Walked, NoMemory>
-    requires walking { (s : State) × (i : ℕ)
-        × IsWalking M.meaning code.now s i entry.now.fresh cells.now.entries overlay.old.entries machine.old }
-    requires below { (M.meaning.stage code.now machine.old).steps ≤ entry.now.steps }
-    ensures { IfOk result (λ walked. (s : State) (i : ℕ) (side : Side) (n : ℕ)
-        → IsAtStep M.meaning code.now s i entry.now.fresh cells.now.entries overlay.old.entries machine.old side n
-        → RunsAlong M.meaning code.now s i entry.now.fresh cells.now.entries overlay.new.entries machine.new side entry.now.steps walked) }
+impl<'a, M: Runner> Walk<'a, M>
+where
+    M::Code: Drop,
 {
-    let fresh = entry.fresh.as_slice();
-    match walk(alloc, code, cells, fresh, overlay, machine, entry.steps)? {
-        Walked::Whole(want) => {
-            let used = machine.fresh().len();
-            if used < fresh.len() {
-                Ok(Walked::Undefined(Reason::Unused(machine.steps(), fresh[used])))
-            } else {
-                Ok(Walked::Whole(want))
+    /// Makes the steps up to this count, and returns what the machine wants next.
+    pub(crate) fn go(
+        &self,
+        overlay: &mut BTreeMap<u32, Stored<M::Value>>,
+        machine: &mut M,
+        steps: u64,
+    ) -> Result<Wants, EntryError>
+        requires walking { (s : State) × (i : ℕ)
+            × IsWalking M.meaning self.now.code.now s i self.now.entry.now.fresh self.now.cells.now.entries overlay.old.entries machine.old }
+        requires below { (M.meaning.stage self.now.code.now machine.old).steps ≤ steps }
+        ensures whole { IfOk result (λ want. (s : State) (i : ℕ) (side : Side) (n : ℕ)
+            → IsAtStep M.meaning self.now.code.now s i self.now.entry.now.fresh self.now.cells.now.entries overlay.old.entries machine.old side n
+            → WalksTo M.meaning self.now.code.now s i self.now.entry.now.fresh self.now.cells.now.entries overlay.new.entries machine.new side steps want) }
+        ensures halted { IfErr result (λ error. (s : State) (i : ℕ) (side : Side) (n : ℕ)
+            → IsAtStep M.meaning self.now.code.now s i self.now.entry.now.fresh self.now.cells.now.entries overlay.old.entries machine.old side n
+            → StopsWalk side i steps self.now.entry.now.fresh s error) }
+    {
+        'walk: loop {
+            let want = machine.advance(self.alloc, self.code, steps - machine.steps())?;
+            if machine.steps() == steps {
+                return Ok(want);
             }
+            self.take(overlay, machine, want)?;
         }
-        Walked::Undefined(why) => Ok(Walked::Undefined(why)),
-        Walked::Tall => Ok(Walked::Tall),
+    }
+
+    /// Makes all steps of the entry, with exactly its locations, and returns what the machine wants next.
+    pub(crate) fn run(
+        &self,
+        overlay: &mut BTreeMap<u32, Stored<M::Value>>,
+        machine: &mut M,
+    ) -> Result<Wants, EntryError>
+        requires walking { (s : State) × (i : ℕ)
+            × IsWalking M.meaning self.now.code.now s i self.now.entry.now.fresh self.now.cells.now.entries overlay.old.entries machine.old }
+        requires below { (M.meaning.stage self.now.code.now machine.old).steps ≤ self.now.entry.now.steps }
+        ensures whole { IfOk result (λ want. (s : State) (i : ℕ) (side : Side) (n : ℕ)
+            → IsAtStep M.meaning self.now.code.now s i self.now.entry.now.fresh self.now.cells.now.entries overlay.old.entries machine.old side n
+            → RunsTo M.meaning self.now.code.now s i self.now.entry.now.fresh self.now.cells.now.entries overlay.new.entries machine.new side self.now.entry.now.steps want) }
+        ensures halted { IfErr result (λ error. (s : State) (i : ℕ) (side : Side) (n : ℕ)
+            → IsAtStep M.meaning self.now.code.now s i self.now.entry.now.fresh self.now.cells.now.entries overlay.old.entries machine.old side n
+            → StopsRun side i self.now.entry.now.steps self.now.entry.now.fresh s error) }
+    {
+        let want = self.go(overlay, machine, self.entry.steps)?;
+        let fresh = self.entry.fresh.as_slice();
+        let used = machine.fresh().len();
+        if used < fresh.len() {
+            return Err(EntryError::Undefined(Reason::Unused(machine.steps(), fresh[used])));
+        }
+        Ok(want)
     }
 }

@@ -11,7 +11,7 @@ lines-append (x ∷ xs) ys = ap (λ l. line_of x ++ l) (lines-append xs ys) ∙ 
 pub lines-last : (xs : List ℤ) (n : ℤ) → lines (xs ++ n ∷ []) ≡ lines xs ++ line_of n
 lines-last xs n = lines-append xs (n ∷ []) ∙ ap (λ l. lines xs ++ l) (append-nil (line_of n))
 
--- the line of the next one behind those before
+-- the line of the next one after those before
 pub lines-more : (output : List ℤ) (i : ℕ) (d : ℤ) (text new line : List ℕ) → i < length output → line ≡ line_of (get_or output i d) → new ≡ text ++ line
     → text ≡ lines (take i output) → new ≡ lines (take (i + 1) output)
 lines-more output i d text new line below line_is is text_is =

@@ -1,4 +1,4 @@
--- Reads, over the bytes that a source tells.
+-- Reads, over the bytes that a source reports.
 use Rattle.std.proofs.Common.{◌≡◌, ℕ, ◌+◌, ◌-◌, ◌<◌, ◌≤◌, min, List, [], ◌++◌, length, take, drop, Option, sym, ap, ◌∙◌, arith, drop_of_length-le}
 use Rattle.std.proofs.lemmas.List.{length-append, take_at, take-append-drop, length-take-le, drop-drop}
 use Rattle.std.specs.Io.KnownBytes.{Consumes}
@@ -14,7 +14,7 @@ GivesMoreThan-read limit a b c bytes chunk n p q within over = record {
   more = omega (arith, length-append bytes (take n chunk), length-take-le n chunk within);
 }
 
--- what is copied to a buffer is the front of what is left
+-- the bytes that are copied to a buffer are the first of those that are left
 pub read-front : (left rest buf bytes : List ℕ) (at n : ℕ) → left ≡ drop at bytes → rest ≡ take n left → n ≤ length left
     → left ≡ take n (rest ++ drop n buf) ++ drop (at + n) bytes
 read-front left rest buf bytes at n is moved h =

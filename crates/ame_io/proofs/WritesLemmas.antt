@@ -1,4 +1,4 @@
--- Writes, over the bytes that a sink tells.
+-- Writes, over the bytes that a sink reports.
 use Rattle.std.proofs.Common.{◌≡◌, ℕ, ◌+◌, List, ◌++◌, take, drop, Option, sym, ap, ◌∙◌, subst, append_assoc}
 use Rattle.std.proofs.Math.Seq.{take-add}
 use Rattle.std.proofs.lemmas.List.{take-append-drop}
@@ -12,11 +12,11 @@ pub Appends-take_more : (a b c : Option (List ℕ)) (text rest : List ℕ) (gone
 Appends-take_more a b c text rest gone n is p q =
     subst (Appends a c) (ap (λ l. take gone text ++ take n l) is ∙ sym (take-add gone n text)) (Appends-trans a b c _ _ p q)
 
--- the first n bytes of a text are a front of it
+-- the first n bytes of a text are a prefix of it
 pub AppendsFront-first : (n : ℕ) (a b : Option (List ℕ)) (text : List ℕ) → AppendsFirst n a b text → AppendsFront a b text
 AppendsFront-first n a b text p = record { front = take n text; rest = drop n text; split = sym (take-append-drop n text); appended = p }
 
--- a front of a text is a front of a longer one
+-- a prefix of a text is a prefix of a longer one
 pub AppendsFront-longer : (a b : Option (List ℕ)) (text more : List ℕ) → AppendsFront a b text → AppendsFront a b (text ++ more)
 AppendsFront-longer a b text more p = record {
   front = p.front;
@@ -25,7 +25,7 @@ AppendsFront-longer a b text more p = record {
   appended = p.appended;
 }
 
--- a whole text, and then a front of the next one
+-- a whole text, and then a prefix of the next one
 pub AppendsFront-after : (a b c : Option (List ℕ)) (text next : List ℕ) → Appends a b text → AppendsFront b c next → AppendsFront a c (text ++ next)
 AppendsFront-after a b c text next p q = record {
   front = text ++ q.front;

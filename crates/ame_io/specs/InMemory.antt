@@ -1,4 +1,4 @@
--- What contracts see of a source and a sink in memory.
+-- The views of a source and a sink in memory in contracts.
 use Rattle.std.specs.Prelude.{ℕ, List, Contains}
 use Rattle.ame_io.specs.Counts.{next_count}
 

@@ -1,4 +1,4 @@
--- What reading a whole source does to the bytes that it has left, where it tells them, and to its count of faults.
+-- The effect of reading a whole source on the bytes that it has left, if it reports them, and on its count of faults.
 use Rattle.std.specs.Prelude.{◌≡◌, ℕ, ◌<◌, ◌≤◌, List, length, Option}
 use Rattle.std.specs.Io.KnownBytes.{Consumes, IsAtEnd}
 use Rattle.ame_io.specs.Counts.{HasRisen}
@@ -14,13 +14,13 @@ pub record IsReadWhole (before after : Option (List ℕ)) (bytes : List ℕ) : T
 abbrev pub whole_limit : ℕ
 whole_limit = 1048576
 
--- at most so many bytes were taken from the front
+-- at most `limit` bytes were taken from the front
 pub record GivesAtMost (limit : ℕ) (before after : Option (List ℕ)) : Type 0 where
   pub bytes : List ℕ
   pub taken : Consumes before after bytes
   pub at_most : length bytes ≤ limit
 
--- more than so many bytes were taken from the front
+-- more than `limit` bytes were taken from the front
 pub record GivesMoreThan (limit : ℕ) (before after : Option (List ℕ)) : Type 0 where
   pub bytes : List ℕ
   pub taken : Consumes before after bytes

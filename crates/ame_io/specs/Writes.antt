@@ -1,4 +1,4 @@
--- What writing a whole text does to the bytes that a sink holds, where it tells them.
+-- The effect of writing a whole text on the bytes that a sink holds, if it reports them.
 use Rattle.std.specs.Prelude.{◌≡◌, ℕ, List, ◌++◌, take, Option}
 use Rattle.std.specs.Io.KnownBytes.{Appends}
 
@@ -6,7 +6,7 @@ use Rattle.std.specs.Io.KnownBytes.{Appends}
 abbrev pub AppendsFirst : ℕ → Option (List ℕ) → Option (List ℕ) → List ℕ → Type 0
 AppendsFirst n before after bytes = Appends before after (take n bytes)
 
--- a front of these bytes was appended, and nothing else
+-- a prefix of these bytes was appended, and nothing else
 pub record AppendsFront (before after : Option (List ℕ)) (bytes : List ℕ) : Type 0 where
   pub front : List ℕ
   pub rest : List ℕ

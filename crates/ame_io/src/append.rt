@@ -1,4 +1,4 @@
-//! Appending where the room was taken before.
+//! Appending to room that was taken before.
 ghost use Rattle.std.specs.Prelude.{◌≡◌, ◌+◌, ◌≤◌, ◌++◌, length, vec_len, vec_capacity};
 
 // Appends within the capacity, so it takes no memory.

@@ -1,4 +1,4 @@
-//! What a source and a sink promise.
+//! The promises of a source and a sink.
 ghost use Rattle.std.specs.Prelude.{ℕ, ◌<◌, ◌≤◌, List, Option, length, IfOk};
 ghost use Rattle.std.specs.Io.KnownBytes.{ReadConsumes, WriteAppends};
 ghost use Rattle.ame_io.specs.Counts.{CountsFault};
@@ -7,15 +7,15 @@ ghost use Rattle.ame_io.specs.Counts.{CountsFault};
 #[derive(Clone, Copy, Debug, PartialEq, Eq)]
 pub struct Failed;
 
-/// Where bytes come from.
+/// A source of bytes.
 pub trait Source {
-    // The bytes that reads will give from here on, where the source tells them.
+    // The bytes that reads will give from here on, if the source reports them.
     ghost left: { Self → Option (List ℕ) };
 
-    // How many calls have failed. It never falls, and a counter of 64 bits stays at its last value.
+    // The number of calls that have failed. It never falls, and a counter of 64 bits stays at its last value.
     ghost faults: { Self → ℕ };
 
-    /// Moves bytes to the front of the buffer, and answers how many. What stands behind them isn't said.
+    /// Moves bytes to the beginning of the buffer, and returns their number. Nothing is said of the bytes after them.
     fn read(&mut self, buf: &mut [u8]) -> Result<usize, Failed>
         requires has_room { 0 < length buf.old }
         // No bytes come only at the end of the input.
@@ -24,15 +24,15 @@ pub trait Source {
         ensures counts { CountsFault result (faults self.old) (faults self.new) };
 }
 
-/// Where bytes go.
+/// A sink of bytes.
 pub trait Sink {
-    // The bytes written, where the sink tells them.
+    // The bytes written, if the sink reports them.
     ghost written: { Self → Option (List ℕ) };
 
-    // How many calls have failed. It never falls, and a counter of 64 bits stays at its last value.
+    // The number of calls that have failed. It never falls, and a counter of 64 bits stays at its last value.
     ghost faults: { Self → ℕ };
 
-    /// Appends bytes from the front of the piece, and answers how many.
+    /// Appends the first bytes of the piece, and returns their number.
     fn write(&mut self, piece: &[u8]) -> Result<usize, Failed>
         requires has_bytes { 0 < length piece.now }
         ensures some { IfOk result (λ n. 1 ≤ n) }

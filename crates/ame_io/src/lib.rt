@@ -1,5 +1,5 @@
-//! Where bytes come from and where they go: sources and sinks, in memory and real, and how a whole input is
-//! read and a whole text is written.
+//! Sources and sinks of bytes, in memory and real, the reading of a whole input and the writing of a whole
+//! text.
 #![tactic(auto)]
 
 mod append;

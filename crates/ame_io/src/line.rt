@@ -14,7 +14,7 @@ use std::alloc::{AllocError, Global};
 /// A line with its line feed. The longest is shorter than this.
 pub type Line = ArrayString<64>;
 
-/// The line of an integer, in decimal. It takes no memory.
+/// Returns the line of an integer, in decimal. It takes no memory.
 pub fn integer_line(n: &i64) -> Line
     ensures { result.bytes ≡ line_of n.now }
 {
@@ -25,7 +25,7 @@ pub fn integer_line(n: &i64) -> Line
     line
 }
 
-/// The lines of an output.
+/// Returns the lines of an output.
 pub fn lines_of(alloc: Global, output: &[i64]) -> Result<Vec<u8>, AllocError>
     ensures { IfOk result (λ text. text.items ≡ lines output.now) }
 {
@@ -36,7 +36,7 @@ pub fn lines_of(alloc: Global, output: &[i64]) -> Result<Vec<u8>, AllocError>
     Ok(text)
 }
 
-/// Writes a line whole, or tells that the sink failed. It takes no memory.
+/// Writes a whole line, or fails if the sink failed. It takes no memory.
 pub fn write_line<K: Sink>(sink: &mut K, line: &Line) -> Result<(), WriteFault>
     ensures whole { OnOk result (Appends (K.written sink.old) (K.written sink.new) line.now.bytes) }
     ensures stayed { OnOk result (K.faults sink.new ≡ K.faults sink.old) }

@@ -11,8 +11,8 @@ use crate::plan::Plan;
 use std::alloc::Global;
 use std::marker::Model;
 
-/// Keeps bytes in memory, in pieces of at most `chunk` bytes while there is room, and fails at the calls that it was
-/// told and where no room is left.
+/// Keeps bytes in memory, in pieces of at most `chunk` bytes while there is room, and fails at the planned
+/// calls, and when no room is left.
 #[derive(Debug, Drop)]
 pub struct MemSink {
     bytes: Vec<u8>,

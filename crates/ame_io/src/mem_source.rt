@@ -8,7 +8,7 @@ use crate::ends::{Failed, Source};
 use crate::plan::Plan;
 use std::marker::Model;
 
-/// Gives bytes from memory, in pieces of at most `chunk` bytes, and fails at the calls that it was told.
+/// Gives bytes from memory, in pieces of at most `chunk` bytes, and fails at the planned calls.
 #[derive(Debug, Drop)]
 pub struct MemSource {
     bytes: Vec<u8>,

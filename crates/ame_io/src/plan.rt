@@ -3,7 +3,7 @@ ghost use Rattle.std.specs.Prelude.{◌≡◌, ◌↔◌, IsTrue};
 ghost use Rattle.ame_io.specs.Counts.{next_count};
 ghost use Rattle.ame_io.specs.InMemory.{FailsNext};
 
-// The numbers of the calls that fail, from 1, beside the counts of calls and of faults.
+// The numbers of the calls that fail, from 1, and the counts of calls and of faults.
 #[derive(Debug, Drop)]
 pub(crate) struct Plan {
     pub(crate) fails: Vec<u64>,

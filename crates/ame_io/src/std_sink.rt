@@ -4,8 +4,8 @@ ghost use Rattle.std.specs.Prelude.{◌≡◌};
 use crate::ends::{Failed, Sink};
 use std::io::Write;
 
-/// Adapts a writer, as standard output. An error of any kind is a fault, and so is a write that takes nothing. Of errors a
-/// test says so with a writer that fails once, since no clause can. It isn't flushed, so the writer must not keep bytes
+/// Adapts a writer, as standard output. An error of any kind is a fault, and so is a write that takes nothing. A test with a writer that
+/// fails once shows that of errors, since no clause can. It isn't flushed, so the writer must not keep bytes
 /// back.
 #[derive(Drop)]
 pub struct StdSink<W> {

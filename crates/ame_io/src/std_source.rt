@@ -5,7 +5,7 @@ use crate::ends::{Failed, Source};
 use std::io::Read;
 
 /// Adapts a reader, as standard input. An error of any kind is a fault, an interrupted read too. No clause can say so,
-/// since the reader may tell nothing of its errors; a test with a reader that fails once does.
+/// since the reader may report nothing of its errors; a test with a reader that fails once does.
 #[derive(Drop)]
 pub struct StdSource<R> {
     reader: R,

@@ -27,7 +27,7 @@ pub fn read_all<S: Source>(alloc: Global, source: &mut S) -> Result<Vec<u8>, Rea
     ensures most { IfOk result (λ bytes. vec_len bytes ≤ READ_LIMIT) }
     ensures stayed { OnOk result (S.faults source.new ≡ S.faults source.old) }
 
-    // Too long only where more than the limit was given, and a fault only where no more was.
+    // Too long only if more than the limit was given, and a fault only if no more was.
     ensures left { IfErr result (λ e. LeftAfter e (S.left source.old) (S.left source.new)) }
     ensures faults { IfErr result (λ e. FaultsAfter e (S.faults source.old) (S.faults source.new)) }
 {

@@ -17,7 +17,7 @@ pub fn write_all<K: Sink>(sink: &mut K, bytes: &[u8]) -> Result<(), WriteFault>
     ensures whole { OnOk result (Appends (K.written sink.old) (K.written sink.new) bytes.now) }
     ensures stayed { OnOk result (K.faults sink.new ≡ K.faults sink.old) }
 
-    // It fails only where the sink does.
+    // It fails only if the sink does.
     ensures gone { IfErr result (λ e. AppendsFirst e.gone (K.written sink.old) (K.written sink.new) bytes.now) }
     ensures front { OnErr result (AppendsFront (K.written sink.old) (K.written sink.new) bytes.now) }
     ensures short { IfErr result (λ e. e.gone < length bytes.now) }

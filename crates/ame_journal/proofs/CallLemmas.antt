@@ -16,7 +16,7 @@ use Rattle.ame_journal.proofs.LabelLemmas.{unfolds-run}
 use Rattle.ame_journal.proofs.UnfoldLemmas.{run-last, free-back, entry-back}
 
 module _ (k : ℕ) where
-  -- the calls along labels, and along those behind them
+  -- the calls along labels, and along those after them
   calls_along-append : (s t : State) (xs ys : List Label) → run s xs ≡ Some t → calls_along k s (xs ++ ys) ≡ calls_along k s xs ++ calls_along k t ys
   calls_along-append s t [] ys e = let same : s ≡ t = cc in ap (λ u. calls_along k u ys) same
   calls_along-append s t (x ∷ xs) ys e =

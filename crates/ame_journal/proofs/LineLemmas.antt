@@ -1,4 +1,4 @@
--- How the parts of a line are told from its words.
+-- The words of a line determine its parts.
 use Rattle.std.proofs.Common.{◌≡◌, ◌≢◌, ℕ, ℤ, ◌<◌, ◌^◌, List, [], ◌∷◌, ◌++◌, All, map, get_or, decimal, codes, Option, Some, None, refl, sym, ap, subst, ◌∙◌, arith}
 use Rattle.std.specs.Fmt.{signed_decimal}
 use Rattle.std.proofs.lemmas.List.Elements.{All-head, All-tail}
@@ -54,7 +54,7 @@ pub no_location : (answer : Option ℤ) (n : ℕ) (rest : List (List ℕ)) → n
 no_location None n rest h e = cc
 no_location (Some a) n rest h e = not_equals n h cc
 
--- the locations before an answer are told by the words
+-- the words determine the locations before an answer
 pub same-fresh : (fresh fresh' : List ℕ) (new : List (List ℕ)) (answer : Option ℤ) → All (λ l. l < 2 ^ 32) fresh → All (λ l. l < 2 ^ 32) fresh' →
     ((l : ℕ) (rest : List (List ℕ)) → l < 2 ^ 32 → new ≢ decimal l ∷ rest) → map decimal fresh ++ new ≡ map decimal fresh' ++ answer_words answer →
     (fresh ≡ fresh') × (new ≡ answer_words answer)

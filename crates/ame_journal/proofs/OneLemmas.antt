@@ -16,7 +16,7 @@ use Rattle.ame_journal.proofs.MovedLemmas.{fragment-moves}
 use Rattle.ame_journal.proofs.SupplyLemmas.{takes-more, takes-last}
 use Rattle.ame_journal.proofs.UnfoldLemmas.{run-last, free-back, fragment-back, no-more, entry-back}
 
--- the answer that is still to be used behind the first step
+-- the answer that is still to be used after the first step
 left_of : List StepKind → Option ℤ → Option ℤ
 left_of [] answer = None
 left_of (k ∷ ks) answer = answer
@@ -88,7 +88,7 @@ module _ (i n : ℕ) (fresh : List ℕ) (ks ls : List StepKind) (s t u : State) 
 ends-one : (s t u : State) (xs : List Label) → run s xs ≡ Some t → run s xs ≡ Some u → t ≡ u
 ends-one s t u xs e f = one t u (run s xs) e f
 
--- no member leaves where it could end
+-- no member leaves if it could end
 leave-or-end : (i : ℕ) (s v w : State) → s.active ≡ Some i → after s Label.Leave ≡ Some v → after s Label.End ≡ Some w → ⊥
 leave-or-end i s v w is_active left ended = cases (ended-staying (record { state = s; inside = [] }) i s w ended)
   where

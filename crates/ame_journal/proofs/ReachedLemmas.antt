@@ -1,4 +1,4 @@
--- What is true of each replayed state.
+-- Facts about each replayed state.
 use Rattle.std.proofs.Common.{◌≡◌, ℕ, ◌==◌, ℤ, Bool, true, false, ◌||◌, not, List, [], ◌∷◌, filter, cond, Option, Some, None, is_some, refl, sym, ap, ◌∙◌, subst, eqb-true}
 use Rattle.std.specs.List.{list_any}
 use Rattle.std.proofs.lemmas.Bool.{eqb-false}
@@ -54,7 +54,7 @@ left-inside i k (x ∷ xs) e = by (x == i) refl (left-inside i k xs) e
     by false is rest e' = here (x == k) refl is rest e'
 
 module _ (r : Replayed) (i : ℕ) (calm : IsCalm r) where
-  -- the others that are inside stand where they stood
+  -- the others that are inside keep their places
   others-stand : (s : State) → Moves i r.state s → (k : ℕ) → (i ≡ k → ⊥) → is_inside r k ≡ true → is_at_unprotected k s ≡ true
   others-stand s moves k other inside =
       let before = calm.standing k inside in

@@ -1,4 +1,4 @@
--- How a replay goes on: more entries, and one more step.
+-- The progress of a replay: more entries, and one more step.
 use Rattle.std.proofs.Common.{◌≡◌, ℕ, zero, suc, ◌==◌, false, List, [], ◌∷◌, ◌++◌, Option, Some, None, option_and_then, if◌then◌else◌, refl, ap, ◌∙◌}
 use Rattle.ame_term.specs.Act.{Act}
 use Rattle.ame_term.specs.State.{State, after}

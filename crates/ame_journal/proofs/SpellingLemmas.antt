@@ -10,7 +10,7 @@ use Rattle.ame_journal.specs.Kinds.{kind_word}
 use Rattle.ame_journal.specs.Text.{answer_words, words_of, entry_line}
 use Rattle.ame_journal.specs.Lines.{part_of, answer_text}
 
--- words with spaces between them: the first, and then each behind its space
+-- words with spaces between them: the first, and then each after its space
 pub join-parts : (word : List ℕ) (words : List (List ℕ)) → join_with_byte 32 (word ∷ words) ≡ word ++ flat_map part_of words
 join-parts word [] = sym (append-nil word)
 join-parts word (w ∷ ws) = ap (λ t. word ++ 32 ∷ t) (join-parts w ws)
@@ -19,7 +19,7 @@ answer-parts : (answer : _) → flat_map part_of (answer_words answer) ≡ answe
 answer-parts None = refl
 answer-parts (Some n) = ap (λ t. 32 ∷ 61 ∷ 32 ∷ t) (append-nil _)
 
--- each location, behind its space
+-- each location, after its space
 abbrev pub fresh_text : List ℕ → List ℕ
 fresh_text fresh = flat_map (λ l. part_of (decimal l)) fresh
 
@@ -67,7 +67,7 @@ pub small-more : (locs : List Loc) (i : ℕ) (d : Loc) → i < length locs → A
 small-more locs i d inside before small =
     All-same (λ l. l < 2 ^ 32) _ _ (one_more locs i d inside) (All-push (λ l. l < 2 ^ 32) (map (λ l. l.0) (take i locs)) (get_or locs i d).0 before small)
 
--- what follows where a call succeeds
+-- what follows if a call succeeds
 pub on_ok : {T E : Type 0} (P Q : Type 0) (r : Result T E) → (P → Q) → OnOk r P → OnOk r Q
 on_ok P Q (Ok x) go h = go h
 on_ok P Q (Err e) go h = h

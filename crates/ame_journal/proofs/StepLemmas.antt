@@ -1,4 +1,4 @@
--- What a legal label tells of the state before it and after it.
+-- The state before a legal label, and after it.
 use Rattle.std.proofs.Common.{◌≡◌, ℕ, ◌+◌, ◌≤◌, arith, ◌++◌, ℤ, Bool, true, false, List, [], ◌∷◌, Option, Some, None, option_and_then, option_map, is_none, is_some, if◌then◌else◌, refl, sym, ap, ◌∙◌, subst, append-nil}
 use Rattle.std.proofs.lemmas.Option.{option_and_then_some}
 use Rattle.ame_term.specs.Tree.{Val, Tree}
@@ -14,7 +14,7 @@ use Rattle.ame_laws.proofs.Typed.MakingLemmas.{same_step-true}
 use Rattle.ame_journal.specs.Replayed.{Replayed, is_at_unprotected, has_such, staying, entering}
 use Rattle.ame_journal.specs.Replay.{redex_act, member_act, making_name, left_or_ended, or_else}
 
--- What an option that has a value tells.
+-- The value of an option that has one.
 
 if-gave : {Y : Type 0} (b : Bool) (o : Option Y) (y : Y) → (if b then o else None) ≡ Some y → (b ≡ true) × (o ≡ Some y)
 if-gave true o y e = (refl, e)
@@ -33,7 +33,7 @@ gave x y e = cc
 
 -- Steps
 
--- what a step of a member on a side tells
+-- the facts about a step of a member on a side
 pub record IsReduced (side : Side) (kind : StepKind) (i : ℕ) (s u : State) : Type 0 where
   pub term : Tree
   pub redex : Tree

@@ -1,4 +1,4 @@
--- What a step takes of a supply.
+-- The part of a supply that a step takes.
 use Rattle.std.proofs.Common.{◌≡◌, ℕ, ◌⊎◌, inl, inr, ℤ, Bool, true, false, List, [], ◌∷◌, ◌++◌, Option, Some, None, option_and_then, refl, ap, ◌∙◌, subst}
 use Rattle.std.proofs.lemmas.Option.{option_and_then_some}
 use Rattle.ame_term.specs.Act.{Act, StepName, step_name, device_answer}
@@ -50,7 +50,7 @@ anywhere last other act fresh = by (making_name act)
     by None = refl
     by (Some name) = name-anywhere name last other fresh
 
--- a step that calls no device takes its locations from the front of a supply
+-- a step that calls no device takes its locations from the beginning of a supply
 name-more : (last : Bool) (kind : StepKind) (xs : List ℕ) (answer : Option ℤ) → device_answer kind ≡ None →
     step_by_name (step_name kind) last (fresh_of kind ++ xs) answer ≡ Some (kind, record { fresh = xs; answer = answer })
 name-more last StepKind.Local xs answer none = refl

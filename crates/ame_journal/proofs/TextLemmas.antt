@@ -1,4 +1,4 @@
--- Lines of a text, and the words of a line, are told apart by line feeds and spaces.
+-- Line feeds separate the lines of a text, and spaces the words of a line.
 use Rattle.std.proofs.Common.{◌≡◌, ℕ, ℤ, pos, negsuc, suc, ◌+◌, ◌-◌, ◌<◌, ◌≤◌, ◌^◌, Bool, true, false, true≢false, not, cond, ◌&&◌, ◌==◌, eqb, eqb-true, List, [], ◌∷◌, ◌++◌, All, map, length, get_or, take, drop, decimal, codes, Option, Some, None, IfSome, FitsSigned, w64, refl, sym, ap, ◌∙◌, arith, append-nil, append_assoc, length-append}
 use Rattle.std.specs.Fmt.{signed_decimal}
 use Rattle.std.specs.List.{flat_map, join_with_byte, position_or_len}
@@ -17,7 +17,7 @@ use Rattle.ame_journal.specs.Lines.{Lacks, IsCut, ReadsLine, ReadsNoLine, part_o
 use Rattle.ame_journal.specs.Text.{answer_words, words_of, entry_line, text_of, IsSpellable, IsText}
 use Rattle.ame_journal.proofs.SpellingLemmas.{join-parts}
 
--- Where the first line ends
+-- The end of the first line
 
 -- how many bytes there are before the first line feed
 abbrev pub feed_len : List ℕ → ℕ
@@ -81,7 +81,7 @@ first-same (x ∷ xs) (y ∷ ys) us vs lx ly e =
     let go = first-same xs ys us vs (All-tail (λ x. (x == 10) ≡ false) x xs lx) (All-tail (λ x. (x == 10) ≡ false) y ys ly) tails in
     (ap (λ z. z ∷ xs) one ∙ ap (λ zs. y ∷ zs) go.0, go.1)
 
--- What no word has
+-- The bytes that no word has
 
 -- whether a byte string lacks a byte
 abbrev lacks_test : ℕ → List ℕ → Bool
@@ -162,7 +162,7 @@ joined-lack w ws lack =
     All-same (λ x. (x == 10) ≡ false) _ _ (join-parts w ws)
     (All-append (λ x. (x == 10) ≡ false) w (flat_map part_of ws) (All-head (Lacks 10) w ws lack) (parts-lack ws (All-tail (Lacks 10) w ws lack)))
 
--- words that lack spaces are told by the line that they make
+-- a line determines its words, if they have no spaces
 pub words-joined : (w : List ℕ) (ws : List (List ℕ)) → All (Lacks 32) (w ∷ ws) → line_words (join_with_byte 32 (w ∷ ws)) ≡ w ∷ ws
 words-joined w [] lack = slice_split_none (λ b. b == 32) w (All-head (Lacks 32) w [] lack)
 words-joined w (v ∷ vs) lack =
@@ -185,7 +185,7 @@ words-bare entry is = words-joined (kind_word entry.kind) (tail_words entry) (wo
 pub line-cut : (entry : Entry) (after : List ℕ) → entry_line entry ++ after ≡ bare entry ++ 10 ∷ after
 line-cut entry after = append_assoc (bare entry) (codes "\n") after
 
--- What the first line is
+-- The bytes of the first line
 
 pub reads_none : (text line behind : List ℕ) → IsCut text line behind → ReadsWord words_of IsSpellable (line_words line) None → ReadsNoLine text
 reads_none text line behind cut none entry after is e =

@@ -1,4 +1,4 @@
--- A fragment under way: how it begins, goes on, and is told by an entry in any replayed state.
+-- A fragment under way: its beginning, its progress, and its entry, in any replayed state.
 use Rattle.std.proofs.Common.{◌≡◌, ℕ, ◌+◌, ◌++◌, true, false, List, [], ◌∷◌, map, Some, None, option_and_then, refl, sym, ap, ◌∙◌, subst, arith, append-nil, append_assoc, length-append}
 use Rattle.std.proofs.lemmas.List.Concat.{flat_map-append}
 use Rattle.ame_term.specs.Frame.{Side, side_told}

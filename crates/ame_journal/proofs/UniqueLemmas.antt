@@ -1,4 +1,4 @@
--- A text tells its entries, and its first bad line.
+-- A text determines its entries, and its first bad line.
 use Rattle.std.proofs.Common.{◌≡◌, ◌≢◌, ℕ, ℤ, suc, List, [], ◌∷◌, ◌++◌, All, map, length, decimal, Option, Some, None, IfSome, FitsSigned, w64, refl, sym, ap, ◌∙◌, arith, append_assoc}
 use Rattle.std.specs.Fmt.{signed_decimal}
 use Rattle.std.proofs.lemmas.List.Elements.{All-head, All-tail}
@@ -43,7 +43,7 @@ words_of-same e f se sf same =
     entry-is e f (kind_word-same e.kind f.kind kind) (decimal_injective e.seat f.seat (omega arith) (omega arith) seat) (decimal_injective e.number f.number se.number sf.number number)
     (decimal_injective e.steps f.steps se.steps sf.steps steps) behind.0 (answer_words-same e.answer f.answer se.answer sf.answer behind.1)
 
--- the first line tells its entry
+-- the first line determines its entry
 pub line-same : (e f : Entry) (xs ys : List ℕ) → IsSpellable e → IsSpellable f → entry_line e ++ xs ≡ entry_line f ++ ys → (e ≡ f) × (xs ≡ ys)
 line-same e f xs ys se sf same =
     let cut = first-same (bare e) (bare f) xs ys (bare-lacks e se) (bare-lacks f sf) (sym (line-cut e xs) ∙ same ∙ line-cut f ys) in
@@ -56,7 +56,7 @@ no_text e xs same = none (bare e) (sym (line-cut e xs) ∙ same)
     none [] h = cc
     none (b ∷ front) h = cc
 
--- texts of entries are the same only where the entries are
+-- texts of entries are the same only if the entries are
 pub text_of-same : (es fs : List Entry) → All IsSpellable es → All IsSpellable fs → text_of es ≡ text_of fs → es ≡ fs
 text_of-same [] [] se sf same = refl
 text_of-same [] (f ∷ fs) se sf same = absurd (no_text f (text_of fs) (sym same))

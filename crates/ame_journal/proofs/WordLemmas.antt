@@ -1,4 +1,4 @@
--- How a line is cut into words.
+-- The words into which a line is cut.
 use Rattle.std.proofs.Common.{◌≡◌, ◌≢◌, ℕ, suc, ◌+◌, ◌<◌, ◌≤◌, ◌^◌, Bool, true, false, not, cond, eqb, List, [], ◌∷◌, length, take, drop, decimal, Option, Some, None, IsTrue, is_some, ◌-◌, refl, sym, ap, ◌∙◌, arith}
 use Rattle.std.specs.List.{onto_first}
 use Rattle.std.proofs.lemmas.Fmt.{decimal_injective}
@@ -6,7 +6,7 @@ use Rattle.std.proofs.lemmas.List.{take_all}
 use denote.Ref.{Bor}
 use Rattle.ame_journal.specs.Words.{line_words, word_len, rest_words}
 
--- the words behind a space, if there is one
+-- the words after a space, if there is one
 abbrev pub words_behind : List ℕ → List (List ℕ)
 words_behind [] = []
 words_behind (b ∷ rest) = line_words rest
@@ -20,7 +20,7 @@ cut_at : (b : ℕ) (rest : List ℕ) (v : Bool) → line_words rest ≡ take (wo
 cut_at b rest true e = refl
 cut_at b rest false e = rw one-plus (ap (onto_first b) e)
 
--- the first word, and those behind it
+-- the first word, and those after it
 pub words-cut : (line : List ℕ) → line_words line ≡ take (word_len line) line ∷ words_behind (drop (word_len line) line)
 words-cut [] = refl
 words-cut (b ∷ rest) = cut_at b rest (eqb b 32) (words-cut rest)

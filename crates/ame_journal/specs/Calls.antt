@@ -1,4 +1,4 @@
--- What devices are asked in a run, and what they answer.
+-- The calls of devices in a run, with their answers.
 use Rattle.std.specs.Prelude.{ℕ, suc, ◌==◌, ℤ, List, [], ◌∷◌, ◌++◌, Option, Some, None, option_and_then, if◌then◌else◌}
 use Rattle.ame_term.specs.Tree.{Tree}
 use Rattle.ame_term.specs.Act.{Act, device_answer}
@@ -8,7 +8,7 @@ use Rattle.ame_journal.specs.declared.entry.Entry.{Entry}
 use Rattle.ame_journal.specs.Replayed.{Replayed, begun_at}
 use Rattle.ame_journal.specs.Replay.{locations, member_act, steps, replay_entry}
 
--- the argument and the answer, where an act calls device k and is answered
+-- the argument and the answer, if an act calls device k and is answered
 abbrev pub call_at : ℕ → Option ℤ → Option Act → List (ℤ × ℤ)
 call_at k None act = []
 call_at k (Some answer) (Some (Act.Calls device argument)) = if device == k then (argument, answer) ∷ [] else []
@@ -19,7 +19,7 @@ abbrev pub label_call : ℕ → State → Label → List (ℤ × ℤ)
 label_call k s (Label.Free i kind) = call_at k (device_answer kind) (member_act i s)
 label_call k s _ = []
 
--- what is told of the next one, if there is one
+-- the fact about the next one, if there is one
 abbrev pub of_next : {X Y : Type 0} → (X → List Y) → Option X → List Y
 of_next go None = []
 of_next go (Some x) = go x

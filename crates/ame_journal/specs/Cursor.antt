@@ -1,4 +1,4 @@
--- What contracts see of the words that are still to be read.
+-- The view of the words that are still to be read.
 use Rattle.std.specs.Prelude.{ℕ, List}
 use Rattle.ame_journal.specs.declared.words.Words.TheInside.{Inside}
 use Rattle.ame_journal.specs.Words.{rest_words}

@@ -1,4 +1,4 @@
--- What contracts see of a journal.
+-- The view of a journal.
 use Rattle.std.specs.Prelude.{ℕ, ℤ, ◌<◌, List, Option, IsNone, ⊤}
 use Rattle.ame_journal.specs.declared.entry.Entry.{Entry}
 use Rattle.ame_journal.specs.declared.entry.EntryKind.{EntryKind}

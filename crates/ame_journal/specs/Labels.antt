@@ -1,4 +1,4 @@
--- The labels that a journal stands for: those of its entries, one entry after another. A journal tells
+-- The labels that a journal stands for: those of its entries, one entry after another. A journal names
 -- members, counts of steps, fresh locations and device answers; all else is determined.
 use Rattle.std.specs.Prelude.{◌≡◌, ℕ, suc, ℤ, true, false, List, [], ◌∷◌, ◌++◌, map, length, Option, Some, None, option_to_list}
 use Rattle.std.specs.List.{flat_map}
@@ -19,7 +19,7 @@ fresh_of kind = option_to_list (fresh_location kind)
 abbrev pub made_by : List StepKind → List ℕ
 made_by kinds = flat_map fresh_of kinds
 
--- a device is called in the last step alone, and then its answer is told
+-- a device is called in the last step alone, and then the entry has its answer
 abbrev pub IsAnswered : List StepKind → Option ℤ → Type 0
 IsAnswered [] answer = answer ≡ None
 IsAnswered (kind ∷ []) answer = answer ≡ device_answer kind
@@ -44,8 +44,8 @@ abbrev pub attempt_labels : Side → ℕ → List StepKind → List Label
 attempt_labels Side.Protected i kinds = fragment_labels i kinds
 attempt_labels Side.Unprotected i kinds = free_labels i kinds
 
--- An entry of a kind for member i, with so many steps, these fresh locations and this answer, unfolds
--- into labels that lead on. A note has none: what it tells could happen here, and nothing changes.
+-- An entry of a kind for member i, with this number of steps, these fresh locations and this answer, unfolds
+-- into labels that lead on. A note has none: its steps could happen here, and nothing changes.
 pub data Unfolds (r : Replayed) (i : ℕ) : EntryKind → ℕ → List ℕ → Option ℤ → List Label → Replayed → Type 0 where
   leaves : (kinds : List StepKind) (n : ℕ) (fresh : List ℕ) (s : State) → is_inside r i ≡ false → AreSteps kinds n fresh None →
       run r.state (fragment_labels i kinds ++ Label.Leave ∷ []) ≡ Some s →

@@ -1,4 +1,4 @@
--- What is read from the words of a line, part by part.
+-- The outcome of reading the words of a line, part by part.
 use Rattle.std.specs.Prelude.{◌≡◌, ◌≢◌, ◌==◌, ◌<◌, ◌^◌, ℕ, ℤ, false, List, [], ◌∷◌, ◌++◌, map, All, Option, Some, None, IfSome, FitsSigned, decimal, codes}
 use Rattle.std.specs.Fmt.{signed_decimal}
 use Rattle.ame_journal.specs.declared.entry.Entry.{Entry}
@@ -9,7 +9,7 @@ use Rattle.ame_journal.specs.declared.line.Head.{Head}
 use Rattle.ame_journal.specs.Kinds.{kind_word}
 use Rattle.ame_journal.specs.JournalView.{MayHold}
 
--- the words of a head, and those behind it
+-- the words of a head, and those after it
 abbrev pub head_words : Head → List (List ℕ) → List (List ℕ)
 head_words head rest = kind_word head.kind ∷ decimal head.seat ∷ decimal head.number ∷ decimal head.steps ∷ rest
 
@@ -39,25 +39,25 @@ pub record IsAnswer (kind : EntryKind) (answer : Option ℤ) : Type 0 where
 abbrev pub Lacks : ℕ → List ℕ → Type 0
 Lacks b bytes = All (λ x. (x == b) ≡ false) bytes
 
--- the bytes before the first line feed, and those behind it
+-- the bytes before the first line feed, and those after it
 pub record IsCut (text line behind : List ℕ) : Type 0 where
   pub split : text ≡ line ++ 10 ∷ behind
   pub no_feed : Lacks 10 line
 
--- the first line spells this entry, and this stands behind it
+-- the first line spells this entry, and this follows it
 pub record ReadsLine (text : List ℕ) (entry : Entry) (behind : List ℕ) : Type 0 where
   pub spelled : text ≡ entry_line entry ++ behind
   pub spellable : IsSpellable entry
 
--- no line of an entry stands at the front of a text
+-- the text doesn't begin with a line of an entry
 abbrev pub ReadsNoLine : List ℕ → Type 0
 ReadsNoLine text = (entry : Entry) (after : List ℕ) → IsSpellable entry → text ≢ entry_line entry ++ after
 
--- a word behind its space
+-- a word after its space
 abbrev pub part_of : List ℕ → List ℕ
 part_of word = 32 ∷ word
 
--- an answer as it is written, where there is one
+-- an answer as it is written, if there is one
 abbrev pub answer_text : Option ℤ → List ℕ
 answer_text None = []
 answer_text (Some answer) = codes " = " ++ signed_decimal answer

@@ -1,4 +1,4 @@
--- What a journal leads to, computed. It is the state that its entries unfold to.
+-- The state to which a journal leads, computed. It is the state that its entries unfold to.
 use Rattle.std.specs.Prelude.{ℕ, zero, suc, ◌==◌, ℤ, Bool, true, false, List, [], ◌∷◌, Option, Some, None, is_some, option_map, option_and_then, if◌then◌else◌}
 use Rattle.ame_term.specs.Tree.{Tree}
 use Rattle.ame_term.specs.Frame.{Side}
@@ -32,12 +32,12 @@ locations fresh = record { fresh = fresh; answer = None }
 
 -- Steps
 
--- what the redex of a term does, where it has one
+-- the act of a term's redex, if it has one
 abbrev pub redex_act : Focus → Option Act
 redex_act (Focus.AtValue v) = None
 redex_act (Focus.AtRedex side redex) = Some (act_of redex)
 
--- what the redex of a member does, where there is such a member and it has one
+-- the act of a member's redex, if there is such a member and it has one
 abbrev pub member_act : ℕ → State → Option Act
 member_act i s = option_and_then (λ term. redex_act (focus term)) (at s.members i)
 
@@ -85,7 +85,7 @@ abbrev pub or_else : {X : Type 0} → Option X → Option X → Option X
 or_else (Some x) other = Some x
 or_else None other = other
 
--- where the active member leaves or ends
+-- the state after the active member leaves or ends
 abbrev pub left_or_ended : Replayed → ℕ → State → Option Replayed
 left_or_ended r i s = or_else (option_map (entering r i) (after s Label.Leave)) (option_map (staying r) (after s Label.End))
 
@@ -101,13 +101,13 @@ abbrev pub replay_closing : Replayed → ℕ → ℕ → List ℕ → Option ℤ
 replay_closing r i n fresh None = option_map (leaving r i) (option_and_then (λ t. after t (Label.Close i)) (steps (Label.Free i) i n (locations fresh) r.state))
 replay_closing r i n fresh (Some answer) = None
 
--- steps under `unprotected`, the last of which may be the one that closes
+-- steps under `unprotected`; the last may be the one that closes
 abbrev pub replay_free : Replayed → ℕ → ℕ → List ℕ → Option ℤ → Option Replayed
 replay_free r i zero fresh answer = None
 replay_free r i (suc n) fresh answer =
     or_else (option_map (staying r) (steps (Label.Free i) i (suc n) (record { fresh = fresh; answer = answer }) r.state)) (replay_closing r i n fresh answer)
 
--- where a fragment, or steps under `unprotected` without a call, lead from here
+-- the state to which a fragment, or steps under `unprotected` without a call, lead from here
 abbrev pub attempt_on : Side → ℕ → ℕ → List ℕ → State → Option State
 attempt_on Side.Protected i n fresh s = fragment i n fresh s
 attempt_on Side.Unprotected i n fresh s = steps (Label.Free i) i n (locations fresh) s
@@ -132,17 +132,17 @@ replay_kind EntryKind.Cut r i n fresh None = note_where (is_some (attempt i n fr
 replay_kind EntryKind.Tall r i n fresh None = note_where (has_such (is_tall (side_at i r.state) i) (attempt i n fresh r.state)) r
 replay_kind _ r i n fresh (Some answer) = None
 
--- the state after an entry, where the entry can be made there
+-- the state after an entry, if the entry can be made there
 unfoldable pub replay_entry : Replayed → Entry → Option Replayed
 replay_entry r entry = replay_kind entry.kind r entry.number entry.steps entry.fresh entry.answer
 
 -- Journals
 
--- the state after entries from here, where they can be made
+-- the state after entries from here, if they can be made
 abbrev pub replay_from : Replayed → List Entry → Option Replayed
 replay_from r [] = Some r
 replay_from r (entry ∷ entries) = option_and_then (λ t. replay_from t entries) (replay_entry r entry)
 
--- the state after all entries, where the journal is one of a run of the program
+-- the state after all entries, if the journal is one of a run of the program
 abbrev pub replay : Tree → List Entry → Option Replayed
 replay program entries = replay_from (begun_at program) entries

@@ -1,4 +1,4 @@
--- The state of a replay, and what is told of a member in it.
+-- The state of a replay, and the facts about a member in it.
 use Rattle.std.specs.Prelude.{ℕ, ◌+◌, ◌==◌, Bool, true, false, not, List, [], ◌∷◌, filter, Option, Some, None, if◌then◌else◌}
 use Rattle.std.specs.List.{list_any}
 use Rattle.ame_term.specs.Tree.{Val, Tree}
@@ -20,7 +20,7 @@ pub record Replayed : Type 0 where
 abbrev pub resting : State → Replayed
 resting s = record { state = s; inside = [] }
 
--- where a program begins
+-- the state in which a program begins
 abbrev pub begun_at : Tree → Replayed
 begun_at program = resting (start program)
 
@@ -68,7 +68,7 @@ value_height (Tree.Lambda head body) = height (Val.Fun head body)
 value_height (Tree.Two binary.Pair (Tree.Held first) (Tree.Held second)) = height (Val.Pair first second)
 value_height _ = 0
 
--- the same of the redex of a term, where it stands on this side
+-- the same of the redex of a term, if it stands on this side
 abbrev pub coming_height : Side → Focus → ℕ
 coming_height side (Focus.AtValue v) = 0
 coming_height side (Focus.AtRedex under redex) = if same_side side under then value_height redex else 0

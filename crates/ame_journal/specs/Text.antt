@@ -8,7 +8,7 @@ use Rattle.ame_journal.specs.declared.fault.JournalFault.{JournalFault}
 use Rattle.ame_journal.specs.JournalView.{IsFit}
 use Rattle.ame_journal.specs.Kinds.{kind_word}
 
--- the words for an answer, where there is one
+-- the words for an answer, if there is one
 abbrev pub answer_words : Option ℤ → List (List ℕ)
 answer_words None = []
 answer_words (Some answer) = codes "=" ∷ signed_decimal answer ∷ []

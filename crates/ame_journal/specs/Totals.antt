@@ -1,4 +1,4 @@
--- What entries tell without a replay.
+-- The facts that entries show without a replay.
 use Rattle.std.specs.Prelude.{ℕ, ◌+◌, Bool, true, false, not, List, filter}
 use Rattle.std.specs.List.{sum_by}
 use Rattle.ame_journal.specs.declared.entry.Entry.{Entry}

@@ -6,7 +6,7 @@ use Rattle.ame_term.specs.declared.semantics.Label.{Label}
 use Rattle.ame_journal.specs.Labels.{AreSteps}
 
 -- Member i became active in the state s, and n steps with these fresh locations have led to the state
--- t, where it is active still. What it printed stands behind what was printed before, and each step
+-- t, and it is active still. Its prints follow those before it, and each step
 -- added one member at most.
 pub record UnderWay (s : State) (i n : ℕ) (fresh : List ℕ) (t : State) : Type 0 where
   pub begun : State

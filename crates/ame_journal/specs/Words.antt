@@ -25,12 +25,12 @@ abbrev pub digits_number : List ℕ → ℕ
 digits_number digits = fold (λ value digit. 10 * value + (digit - 48)) 0 digits
 
 module _ {X T : Type 0} (spelling : X → T) (IsAllowed : X → Type 0) where
-  -- the value that is spelled, or none where no allowed value is
+  -- the value that is spelled, or none if no allowed value is
   abbrev pub ReadsWord : T → Option X → Type 0
   ReadsWord spelled None = (x : X) → IsAllowed x → spelled ≢ spelling x
   ReadsWord spelled (Some x) = (spelled ≡ spelling x) × IsAllowed x
 
--- the first word is taken where it spells an allowed value, and else nothing is
+-- the first word is taken if it spells an allowed value; otherwise nothing is
 module _ {X : Type 0} (spelling : X → List ℕ) (IsAllowed : X → Type 0) where
   abbrev pub TakesFront : List (List ℕ) → Option X → List (List ℕ) → Type 0
   TakesFront old None new = (new ≡ old) × ((x : X) (rest : List (List ℕ)) → IsAllowed x → old ≢ spelling x ∷ rest)

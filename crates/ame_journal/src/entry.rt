@@ -5,7 +5,7 @@ ghost use Rattle.std.specs.Prelude.{◌≡◌};
 use ame_term::{Copied, Locs, NoMemory};
 use std::alloc::Global;
 
-/// What an entry is.
+/// The kind of an entry.
 #[derive(Clone, Copy, PartialEq, Eq, Debug)]
 pub enum EntryKind {
     /// A fragment, from being made active to its end or its next `unprotected`.
@@ -24,7 +24,7 @@ impl EntryKind {
     ghost use Rattle.ame_journal.specs.Kinds.{kind_word};
     ghost use Rattle.ame_journal.specs.Totals as spec;
 
-    /// The word for a kind in a journal's text.
+    /// Returns the word for a kind in a journal's text.
     pub fn word(self) -> &'static [u8]
         ensures { result.now ≡ kind_word self }
     {
@@ -37,7 +37,7 @@ impl EntryKind {
         }
     }
 
-    /// Whether entries of this kind are notes, which change nothing.
+    /// Returns whether entries of this kind are notes, which change nothing.
     pub fn is_note(self) -> bool
         ensures { result ≡ spec.is_note self }
     {
@@ -49,7 +49,7 @@ impl EntryKind {
 }
 
 /// One entry: the seat that made it, the member's number, the number of steps, the locations that
-/// they made, in order, and the device's answer where the last step of a `Free` entry is a call.
+/// they made, in order, and the device's answer if the last step of a `Free` entry is a call.
 #[derive(Drop)]
 pub struct Entry {
     pub kind: EntryKind,

@@ -1,4 +1,4 @@
-//! What can go wrong with a journal's text.
+//! The errors of a journal's text.
 
 /// Why a text gave no journal.
 #[derive(Clone, Copy, PartialEq, Eq, Debug)]

@@ -8,7 +8,7 @@ use ame_term::NoMemory;
 use std::alloc::Global;
 use std::marker::Model;
 
-/// The entries of a run, in the order in which they were made. Contracts see them as a list beside
+/// The entries of a run, in the order in which they were made. Contracts see them as a list, with
 /// the number of places that are free. Each is fit.
 #[derive(Drop)]
 pub struct Journal {
@@ -27,7 +27,7 @@ impl Model for Journal {
 }
 
 impl Journal {
-    /// An empty journal, without memory.
+    /// Returns an empty journal, without memory.
     pub fn new(alloc: Global) -> Journal
         ensures { result.entries ≡ [] }
     {
@@ -36,7 +36,7 @@ impl Journal {
         }
     }
 
-    /// The entries, in order.
+    /// Returns the entries, in order.
     pub fn entries(&self) -> &[Entry]
         ensures entries { result.now ≡ self.now.entries }
         ensures fit { All IsFit self.now.entries }

@@ -31,7 +31,7 @@ fn take_head(words: &mut Words) -> Option<Head>
     })
 }
 
-/// The locations that follow, as many as there are.
+/// Reads the locations that follow, as many as there are.
 fn take_fresh(alloc: Global, words: &mut Words) -> Result<Vec<Loc>, NoMemory>
     ensures { IfOk result (λ fresh. TakesLocations words.old (map (λ l. l.0) fresh.items) words.new) }
 {
@@ -42,7 +42,7 @@ fn take_fresh(alloc: Global, words: &mut Words) -> Result<Vec<Loc>, NoMemory>
     Ok(fresh)
 }
 
-/// What stands behind the locations: nothing, or for `free` an equals sign and the answer.
+/// Reads what follows the locations: nothing, or for `free` an equals sign and the answer.
 fn answer_of(kind: EntryKind, words: &mut Words) -> Option<Option<i64>>
     ensures { ReadsWord answer_words (IsAnswer kind) words.old result }
 {
@@ -61,7 +61,7 @@ fn answer_of(kind: EntryKind, words: &mut Words) -> Option<Option<i64>>
     }
 }
 
-/// The entry that a line spells, without its line feed.
+/// Reads the entry that a line spells, without its line feed.
 pub fn entry_of(alloc: Global, line: &[u8]) -> Result<Option<Entry>, NoMemory>
     ensures { IfOk result (ReadsWord words_of IsSpellable (spec.line_words line.now)) }
 {

@@ -8,7 +8,7 @@ ghost use Rattle.ame_journal.specs.Words.{ReadsWord};
 
 use itoa::Buffer;
 
-/// The value of decimal digits, or the greatest `u64` where it doesn't fit.
+/// Returns the value of decimal digits, or the greatest `u64` if it doesn't fit.
 fn value_of(digits: &[u8]) -> u64
     ensures { result ≡ min (spec.digits_number digits.now) (2 ^ 64 - 1) }
 {
@@ -21,7 +21,7 @@ fn value_of(digits: &[u8]) -> u64
     value
 }
 
-/// The number that a word spells.
+/// Returns the number that a word spells.
 pub fn number(word: &[u8]) -> Option<u64>
     ensures { ReadsWord decimal (λ n. n < 2 ^ 64) word.now result }
 {
@@ -34,7 +34,7 @@ pub fn number(word: &[u8]) -> Option<u64>
     }
 }
 
-/// The value of digits behind a sign or none, where it fits.
+/// Returns the value of digits after a sign or none, if it fits.
 fn signed_value(word: &[u8]) -> Option<i64>
     ensures { (z : ℤ) → FitsSigned w64 z → word.now ≡ signed_decimal z → result ≡ Some z }
 {
@@ -44,7 +44,7 @@ fn signed_value(word: &[u8]) -> Option<i64>
     }
 }
 
-/// The number that a word spells, which may be negative.
+/// Returns the number that a word spells, which may be negative.
 pub fn signed_number(word: &[u8]) -> Option<i64>
     ensures { ReadsWord signed_decimal (FitsSigned w64) word.now result }
 {

@@ -43,7 +43,7 @@ fn write_number(text: &mut Vec<u8>, number: u64) -> Result<(), NoMemory>
     write(text, buffer.format(number).as_bytes())
 }
 
-/// Appends each location, behind a space.
+/// Appends each location, after a space.
 fn write_fresh(text: &mut Vec<u8>, fresh: &[Loc]) -> Result<(), NoMemory>
     ensures written { OnOk result (text.new.items ≡ text.old.items ++ flat_map (λ l. part_of (decimal l)) (map (λ l. l.0) fresh.now)) }
     ensures range { OnOk result (All (λ l. l < 2 ^ 32) (map (λ l. l.0) fresh.now)) }
@@ -54,7 +54,7 @@ fn write_fresh(text: &mut Vec<u8>, fresh: &[Loc]) -> Result<(), NoMemory>
     Ok(())
 }
 
-/// Appends an equals sign and the answer, where there is one.
+/// Appends an equals sign and the answer, if there is one.
 fn write_answer(text: &mut Vec<u8>, answer: Option<i64>) -> Result<(), NoMemory>
     ensures written { OnOk result (text.new.items ≡ text.old.items ++ answer_text answer) }
     ensures range { IfSome answer (FitsSigned w64) }

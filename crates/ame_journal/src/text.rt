@@ -15,7 +15,7 @@ use ame_term::NoMemory;
 use std::alloc::Global;
 
 impl Journal {
-    /// The text: a line for each entry. Its cost is linear in its length.
+    /// Returns the text: a line for each entry. Its cost is linear in its length.
     pub fn to_text(&self, alloc: Global) -> Result<Vec<u8>, NoMemory>
         ensures { IfOk result (λ text. IsText text.items self.now.entries) }
     {
@@ -27,7 +27,7 @@ impl Journal {
         Ok(text)
     }
 
-    /// The journal that a text spells. Its cost is linear in the text's length.
+    /// Reads the journal that a text spells. Its cost is linear in the text's length.
     pub fn from_text(alloc: Global, text: &[u8]) -> Result<Journal, JournalFault>
         requires small { length text.now < 2 ^ 32 }
         ensures ok { IfOk result (λ journal. IsText text.now journal.entries) }
@@ -61,7 +61,7 @@ fn add(journal: &mut Journal, entry: Entry) -> Result<(), NoMemory>
     Ok(())
 }
 
-/// The bytes before the first line feed, and those behind it.
+/// Returns the bytes before the first line feed, and those after it.
 fn first_line(text: &[u8]) -> Option<(&[u8], &[u8])>
     ensures { MatchOption result (Lacks 10 text.now) (λ cut. IsCut text.now cut.0.now cut.1.now) }
 {
@@ -72,7 +72,7 @@ fn first_line(text: &[u8]) -> Option<(&[u8], &[u8])>
     }
 }
 
-/// How many bytes there are before the first line feed.
+/// Counts the bytes before the first line feed.
 fn line_len(text: &[u8]) -> usize
     ensures value { result ≡ position_or_len (λ b. b == 10) text.now }
     ensures within { result ≤ length text.now }
@@ -80,7 +80,7 @@ fn line_len(text: &[u8]) -> usize
     text.iter().take_while(|b| **b != b'\n').count()
 }
 
-/// The entry that the first line spells, and the text behind that line.
+/// Reads the entry that the first line spells, and returns it with the text after that line.
 fn next_entry(alloc: Global, text: &[u8]) -> Result<Option<(Entry, &[u8])>, NoMemory>
     ensures { IfOk result (λ read. MatchOption read (ReadsNoLine text.now) (λ r. ReadsLine text.now r.0 r.1.now)) }
 {

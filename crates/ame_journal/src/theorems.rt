@@ -18,14 +18,14 @@ ghost use Rattle.ame_journal.specs.Text.{IsText, IsFirstBadLine};
 
 use ame_term::Accepted;
 
-/// A journal that can be replayed stands for one strong run: its entries unfold into labels, each of
-/// which is legal where it stands, and the run ends in the replayed state.
+/// States that a journal that can be replayed stands for one strong run: its entries unfold into labels,
+/// each legal in its state, and the run ends in the replayed state.
 pub fn journal_is_one_run()
     ensures { (program : Tree) (entries : List Entry) (r : Replayed) → replay program entries ≡ Some r →
         (labels : List Label) × UnfoldsAll (begun_at program) entries labels r × IsRun program labels r.state }
 {}
 
-/// A journal whose entries unfold into labels can be replayed, and ends in the same state.
+/// States that a journal whose entries unfold into labels can be replayed, and ends in the same state.
 pub fn unfolded_is_replayed()
     ensures { (program : Tree) (entries : List Entry) (labels : List Label) (r : Replayed) →
         UnfoldsAll (begun_at program) entries labels r → replay program entries ≡ Some r }
@@ -37,31 +37,31 @@ pub fn labels_are_one()
         UnfoldsAll r entries labels t → UnfoldsAll r entries more u → (labels ≡ more) × (t ≡ u) }
 {}
 
-/// A note changes nothing, and a journal leads to the same state without its notes.
+/// States that a note changes nothing, and that a journal leads to the same state without its notes.
 pub fn notes_change_nothing()
     ensures entry { (r : Replayed) (entry : Entry) (t : Replayed) → is_note entry.kind ≡ true → replay_entry r entry ≡ Some t → t ≡ r }
     ensures left_out { (program : Tree) (entries : List Entry) (r : Replayed) → replay program entries ≡ Some r →
         replay program (without_notes entries) ≡ Some r }
 {}
 
-/// The calls of a device that a journal makes are those of its labels.
+/// States that the calls of a device that a journal makes are those of its labels.
 pub fn calls_are_of_the_labels()
     ensures { (device : ℕ) (program : Tree) (entries : List Entry) (labels : List Label) (r : Replayed) →
         UnfoldsAll (begun_at program) entries labels r → device_calls device program entries ≡ calls_along device (start program) labels }
 {}
 
-/// The same of a program that keeps that it is accepted.
+/// States that the replayed states of an accepted program are typed.
 pub fn accepted_replayed_is_typed(accepted: &Accepted)
     ensures { (entries : List Entry) (r : Replayed) → replay (tree_of accepted.now.program.term) entries ≡ Some r →
         (cells : StoreTyping) × IsTyped (signature_of accepted.now) cells r.state }
 {}
 
-/// A text spells one journal at most.
+/// States that a text spells one journal at most.
 pub fn text_is_of_one_journal()
     ensures { (text : List ℕ) (entries others : List Entry) → IsText text entries → IsText text others → entries ≡ others }
 {}
 
-/// The first bad line of a text is one.
+/// States that a text has at most one first bad line.
 pub fn first_bad_line_is_one()
     ensures { (text : List ℕ) (m n : ℕ) → IsFirstBadLine text m → IsFirstBadLine text n → m ≡ n }
 {}

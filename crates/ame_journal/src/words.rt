@@ -12,8 +12,8 @@ use crate::numbers::{number, signed_number};
 use ame_term::Loc;
 use std::marker::Model;
 
-/// The kind that a word stands for.
-fn kind_of(word: &[u8]) -> Option<EntryKind>
+/// Returns the kind that a word stands for.
+pub fn kind_of(word: &[u8]) -> Option<EntryKind>
     ensures { ReadsWord kind_word (λ _. ⊤) word.now result }
 {
     match word {
@@ -55,14 +55,14 @@ impl<'a> Words<'a> {
         self.rest.is_none()
     }
 
-    /// The first word.
+    /// Returns the first word.
     fn first(&self) -> Option<&'a [u8]>
         ensures { MatchOption result (self.now ≡ []) (λ word. BeginsWith self.now word.now) }
     {
         Some(cut(self.rest?).0)
     }
 
-    /// Leaves the first word behind.
+    /// Skips the first word.
     fn advance(&mut self)
         ensures { self.new ≡ drop 1 self.old }
     {
@@ -128,7 +128,7 @@ impl<'a> Words<'a> {
     }
 }
 
-/// How many bytes there are before the first space.
+/// Counts the bytes before the first space.
 fn word_len(line: &[u8]) -> usize
     ensures value { result ≡ spec.word_len line.now }
     ensures within { result ≤ length line.now }
@@ -136,7 +136,7 @@ fn word_len(line: &[u8]) -> usize
     line.iter().take_while(|b| **b != b' ').count()
 }
 
-/// The first word, and what stands behind the space after it.
+/// Returns the first word, and the bytes after the space that follows it.
 fn cut(line: &[u8]) -> (&[u8], Option<&[u8]>)
     ensures { spec.line_words line.now ≡ result.0.now ∷ rest_words result.1 }
 {

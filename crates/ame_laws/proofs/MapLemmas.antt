@@ -183,7 +183,7 @@ module _ {X : Type 0} where
           at-below_all es n (subst (λ (m : ℕ). AllByRecursion (λ k. nat_cmp m k ≡ Less) (keys_of es)) (sym (is_at-same n e.0 is)) rise.0)
       by false is rest = rw is rest
 
-  -- What holds of all numbers.
+  -- Facts about all numbers.
 
   pub numbers-put : (P : ℕ → Type 0) (es : List (ℕ × X)) (n : ℕ) (x : X) → P n → AllByRecursion P (keys_of es) → AllByRecursion P (keys_of (put es n x))
   numbers-put P [] n x p all = (p, tt)
@@ -281,7 +281,7 @@ module _ {X : Type 0} where
             (λ k above. let more : f.0 < k = lt-from_less f.0 k above in less-from_lt e.0 k (omega arith)) (keys_of es) all,
       )
 
-  -- where one map finds what another can't have
+  -- a key that one map has and another can't have
   clash_of : (e : ℕ × X) (es fs : List (ℕ × X)) → at (e ∷ es) e.0 ≡ at fs e.0 → at fs e.0 ≡ None → ⊥
   clash_of e es fs same none = let both : ◌≡◌ {A = Option X} (Some e.1) None = sym (at-first e es) ∙ same ∙ none in cc
 
@@ -315,7 +315,7 @@ module _ {X : Type 0} where
           let head : e ≡ f = λ i. (h i, value i) in
           λ i. head i ∷ rest (tails_alike e f es fs h rise.0 others.0 same) i
 
--- What holds of all values.
+-- Facts about all values.
 
 module _ {X : Type 0} (P : X → Type 0) where
   abbrev pub Each : List (ℕ × X) → Type 0

@@ -1,4 +1,4 @@
--- What comes next in a list from a place on.
+-- The next item of a list from a place on.
 use Rattle.std.proofs.Common.{◌≡◌, ℕ, ◌+◌, ◌<◌, ◌++◌, List, [], ◌∷◌, Some, length, get_or, drop, refl, sym, ap, subst, ◌∙◌, zero, suc, arith, append_assoc, append-nil, length-append}
 use Rattle.std.specs.Prelude.{slice_get}
 use Rattle.std.proofs.lemmas.List.{drop-drop, drop_at}

@@ -1,4 +1,4 @@
--- What a label leaves of an orderly state.
+-- A label keeps a state orderly.
 use Rattle.std.proofs.Common.{◌≡◌, ℕ, ◌+◌, ◌<◌, ◌≤◌, ◌++◌, ℤ, Bool, true, false, List, [], ◌∷◌, Option, Some, None, option_and_then, option_map, is_some, is_none, if◌then◌else◌, refl, sym, ap, ◌∙◌, subst, arith}
 use Rattle.std.specs.List.{AllByRecursion}
 use Rattle.std.specs.List.Sorted.{IsStrictlySortedBy}
@@ -14,7 +14,7 @@ use Rattle.ame_term.specs.declared.semantics.Label.{Label}
 use Rattle.ame_laws.specs.Orderly.{IsOrderly}
 use Rattle.ame_laws.proofs.MapLemmas.{is_some-put, is_some-change, all-numbers, numbers-put, numbers-change, numbers-without, rise-put, rise-change, rise-without}
 
--- What an option that has a value tells.
+-- The value of an option that has one.
 
 and_then-gave : {X Y : Type 0} (f : X → Option Y) (o : Option X) (y : Y) → option_and_then f o ≡ Some y → (x : X) × (o ≡ Some x) × (f x ≡ Some y)
 and_then-gave f None y e = cc
@@ -32,7 +32,7 @@ unless-gave : {Y : Type 0} (b : Bool) (o : Option Y) (y : Y) → (if b then None
 unless-gave true o y e = cc
 unless-gave false o y e = e
 
--- a state goes on to another, which is orderly where it is, and whose next number isn't lower
+-- a state goes on to another, which is orderly if it is, and whose next number isn't lower
 pub record GoesOn (s t : State) : Type 0 where
   pub orderly : IsOrderly s → IsOrderly t
   pub next : s.next ≤ t.next

@@ -1,5 +1,5 @@
--- What the tests of the typing table mean, what a row's answer tells of its parts, and what a row answers
--- where its parts have types.
+-- The meaning of the typing table's tests, the types of a row's parts by its answer, and the answer of a row
+-- whose parts have types.
 use Rattle.std.proofs.Common.{◌≡◌, ℕ, Bool, true, false, ◌&&◌, ◌⊎◌, Option, Some, None, Ok, Err, refl, sym, ap, subst, ◌∙◌, inl, inr, lt-ltb}
 use borrow.Author.Tests.{ltb-true}
 use Rattle.std.specs.Prelude.{nat_lt}
@@ -7,11 +7,10 @@ use Rattle.ame_term.specs.Tree.{Typ, OwnName}
 use Rattle.ame_term.specs.Signature.{Signature, unlisted}
 use Rattle.ame_term.specs.Shown.{Shown, TypeOutcome, TypeFault, type_mismatch, wrong_effect, wrong_sort, misplaced_block, no_device, not_unit}
 use Rattle.ame_term.specs.Typing.{same_type, same_sort, same_effect, touches, fits, then_, need, want, want_unit, want_effect, known, cell_type, function_row, call_row, read_row, peeked_row, write_row, first_of, second_of, breaks, op_type, unary_row, binary_row}
-use Rattle.ame_term.specs.HasType.{code_of, HasUnary, HasBinary, negation, reference, get, peek, block, print, call, first, second, app, sum, difference, product, less, equal, set, pair}
+use Rattle.ame_term.specs.HasType.{code_of, HasUnary, HasBinary, negation, reference, get, peek, block, print, call, first, second, app, operation, set, pair}
 use Rattle.ame_term.specs.declared.types.Sort.{Sort}
 use Rattle.ame_term.specs.declared.types.Effect.{Effect}
 use Rattle.ame_term.specs.declared.types.Op.{Op}
-use Rattle.ame_term.specs.declared.types.Op.TheVariants as op
 use Rattle.ame_term.specs.declared.types.Unary.{Unary}
 use Rattle.ame_term.specs.declared.types.Unary.TheVariants as unary
 use Rattle.ame_term.specs.declared.types.Binary.{Binary}
@@ -101,7 +100,7 @@ pub fits-all : (r q : Effect) → (r ≡ q) ⊎ (r ≡ Effect.Either) → fits r
 fits-all r q (inl e) = rw e (fits-own q)
 fits-all r q (inr e) = rw e refl
 
--- What a type that was given tells.
+-- The type in an answer.
 
 pub then-gave : (o : TypeOutcome) (rest : Typ → TypeOutcome) (t : Typ) → then_ o rest ≡ Ok t → (u : Typ) × (o ≡ Ok u) × (rest u ≡ Ok t)
 then-gave (Ok u) rest t e = (u, refl, e)
@@ -193,15 +192,7 @@ wanted at o w r t e =
     let h = want-gave at k.0 w (Ok r) t k.2 in
     (k.1 ∙ ap Ok h.0, given r t h.1)
 
--- an operator's row has the type that the table says
-has_op : (o : Op) (q : Effect) → HasBinary (binary.Bin o) q Typ.Int Typ.Int (op_type o)
-has_op op.Add q = sum
-has_op op.Sub q = difference
-has_op op.Mul q = product
-has_op op.Less q = less
-has_op op.Same q = equal
-
--- The rows by groups: where a row gives a type, its parts have types, and the relation has the row.
+-- The rows by groups: if a row gives a type, its parts have types, and the relation has the row.
 module _ (devices : ℕ) where
   pub unary-gave : (form : Unary) (at pat : ℕ) (q : Effect) (o : TypeOutcome) (t : Typ) → unary_row devices form at pat q o ≡ Ok t →
       (u : Typ) × (o ≡ Ok u) × HasUnary (unlisted devices) form q u t
@@ -269,7 +260,7 @@ binary-gave (binary.Bin o) at lat rat q a b t e =
     let k = then-gave a (λ u. want lat u Typ.Int (then_ b (λ w. want rat w Typ.Int (Ok (op_type o))))) t e in
     let l = want-gave lat k.0 Typ.Int (then_ b (λ w. want rat w Typ.Int (Ok (op_type o)))) t k.2 in
     let r = wanted rat b Typ.Int (op_type o) t l.1 in
-    (Typ.Int, Typ.Int, k.1 ∙ ap Ok l.0, r.0, subst (HasBinary (binary.Bin o) q Typ.Int Typ.Int) r.1 (has_op o q))
+    (Typ.Int, Typ.Int, k.1 ∙ ap Ok l.0, r.0, subst (HasBinary (binary.Bin o) q Typ.Int Typ.Int) r.1 (operation o))
 binary-gave binary.Set at lat rat q a b t e =
     let k = then-gave a (λ u. write_row at lat rat q u b) t e in
     let r = write-gave at lat rat q k.0 b t k.2 in
@@ -282,10 +273,6 @@ binary-gave binary.Pair at lat rat q a b t e =
 pub binary-gives : {form : Binary} {q : Effect} {t u w : Typ} → HasBinary form q t u w → (at lat rat : ℕ) → binary_row form at lat rat q (Ok t) (Ok u) ≡ Ok w
 unfolding same_type
 binary-gives (app {q} {r} {t} p) at lat rat = rw (same_type-refl t) (rw (fits-all r q p) refl)
-binary-gives sum at lat rat = refl
-binary-gives difference at lat rat = refl
-binary-gives product at lat rat = refl
-binary-gives less at lat rat = refl
-binary-gives equal at lat rat = refl
+binary-gives (operation o) at lat rat = refl
 binary-gives (set {q} {s} {t} p) at lat rat = rw (same_type-refl t) (rw (touches-all s q p) refl)
 binary-gives pair at lat rat = refl

@@ -1,4 +1,4 @@
--- What comes next in a list.
+-- The next item of a list.
 use Rattle.std.specs.Prelude.{◌≡◌, ℕ, List, ◌++◌, drop}
 
 -- these come next in the list from a place on

@@ -4,7 +4,7 @@ use Rattle.ame_term.specs.Tree.{OwnName, Head, Val, Tree, Trees}
 use Rattle.ame_term.specs.declared.types.Unary.{Unary}
 use Rattle.ame_term.specs.declared.types.Binary.{Binary}
 
--- a function form binds its parameter, and its own name where it has one
+-- a function form binds its parameter, and its own name if it has one
 abbrev pub Binds : Head → ℕ → Type 0
 Binds head x = (head.param ≡ x) ⊎ ((own : OwnName) × (head.own ≡ Some own) × (own.name ≡ x))
 

@@ -1,4 +1,4 @@
--- The table computes a type exactly where a term has one.
+-- The table computes a type exactly if a term has one.
 use Rattle.std.specs.Prelude.{◌≡◌, ℕ, Option, Ok}
 use Rattle.ame_term.specs.Tree.{Typ, Tree}
 use Rattle.ame_term.specs.Signature.{Signature, unlisted}
@@ -8,7 +8,7 @@ use Rattle.ame_term.specs.HasType.{HasType}
 use Rattle.ame_term.specs.declared.types.Sort.{Sort}
 use Rattle.ame_term.specs.declared.types.Effect.{Effect}
 
--- a type that the table gives is had, where nothing is told of `ref` forms
+-- a type that the table gives is had, if nothing is known of `ref` forms
 abbrev pub GivesOnlyHad : Type 0
 GivesOnlyHad =
     (devices : ℕ) (cells : ℕ → Option (Sort × Typ)) (places : ℕ → ℕ) (g : Scope) (q : Effect) (i : ℕ) (e : Tree) (t : Typ) →

@@ -36,7 +36,7 @@ ghost use Rattle.ame_term.specs.View.{tree_of};
 
 use ame_term::Accepted;
 
-/// Each term is a value, or a redex in frames; never both; and the frames and the redex are its own.
+/// States that each term is a value, or a redex in frames; never both; and the frames and the redex are its own.
 pub fn one_decomposition()
     ensures some { (t : Tree) → IsValue t ⊎ IsReducible t }
     ensures not_both { (t : Tree) → IsValue t → IsReducible t → ⊥ }
@@ -44,7 +44,7 @@ pub fn one_decomposition()
         → plug_all fs r ≡ plug_all gs q → (fs ≡ gs) × (r ≡ q) }
 {}
 
-/// `focus` finds the redex in its frames, on their side, and `fill` puts another term into the same
+/// States that `focus` finds the redex in its frames, on their side, and `fill` puts another term into the same
 /// frames.
 pub fn contexts_are_focus()
     ensures value { (t : Tree) (v : Val) → (focus t ≡ AtValue v) ↔ (t ≡ Held v) }
@@ -55,7 +55,7 @@ pub fn contexts_are_focus()
     ensures found { (t r : Tree) (side : Side) → focus t ≡ AtRedex side r → HasRedex t r side }
 {}
 
-/// `substitute` gives the one term that the rules of substitution give.
+/// States that `substitute` gives the one term that the rules of substitution give.
 pub fn substitution_puts()
     ensures { (x : ℕ) (w : Val) (t u : Tree) → Puts x w t u ↔ (u ≡ substitute t x w) }
 {}
@@ -66,13 +66,13 @@ pub fn substitutions_commute()
         → substitute (substitute t x v) y w ≡ substitute (substitute t y w) x v }
 {}
 
-/// Substitution leaves a term in which the name isn't free, as it leaves a closed one.
+/// States that substitution leaves a term in which the name isn't free, as it leaves a closed one.
 pub fn closed_terms_stay()
     ensures not_free { (x : ℕ) (t : Tree) (w : Val) → is_free x t ≡ false → substitute t x w ≡ t }
     ensures closed { (x : ℕ) (t : Tree) (w : Val) → IsClosed t → substitute t x w ≡ t }
 {}
 
-/// A function's body with a value for its parameter, and the function for its own name, has the free
+/// States that a function's body with a value for its parameter, and the function for its own name, has the free
 /// names of the function form.
 pub fn entered_names()
     ensures { (x : ℕ) (head : Head) (body : Tree) (v : Val)
@@ -91,12 +91,12 @@ pub fn heights_are_of_what_is_held()
     ensures pair { (a b : Val) → IsOneAbove (IsOneOf a b) (height (Val.Pair a b)) }
 {}
 
-/// A label leads from one state to another exactly where a rule has it.
+/// States that a label leads from one state to another exactly if a rule has it.
 pub fn after_follows_the_rules()
     ensures { (s : State) (label : Label) (t : State) → IsLegal s label t ↔ Rule s label t }
 {}
 
-/// What a redex does is what its row tells: what it becomes, where that is all that happens, and what
+/// States that a redex does what its row says: the term that it becomes, if nothing else happens, and what
 /// a kind of step makes of it on a side.
 pub fn reductions_follow_the_rows()
     ensures becomes { (redex part : Tree)
@@ -105,7 +105,7 @@ pub fn reductions_follow_the_rows()
         → (performed_on side kind (act_of redex) s ≡ Some (part, t)) ↔ Reduces s side kind redex part t }
 {}
 
-/// `start` is the state in which a program begins, and `run` leads where labels lead, each by a rule.
+/// States that `start` is the state in which a program begins, and `run` leads along labels, each by a rule.
 pub fn runs_follow_the_rules()
     ensures begins { (program : Tree) (s : State) → (s ≡ start program) ↔ Begins program s }
     ensures runs { (s : State) (labels : List Label) (t : State)
@@ -114,22 +114,22 @@ pub fn runs_follow_the_rules()
         → IsRun program labels t ↔ ((s : State) × Begins program s × Runs s labels t) }
 {}
 
-/// A type that the table gives to a term is had by it.
+/// States that a term has any type that the table gives to it.
 pub fn what_the_table_gives_is_had()
     ensures { GivesOnlyHad }
 {}
 
-/// A type that a term has is given by the table, at all places.
+/// States that the table gives a type that a term has, at all places.
 pub fn table_gives_what_is_had()
     ensures { GivesAllHad }
 {}
 
-/// A term has one type at most.
+/// States that a term has one type at most.
 pub fn types_are_unique()
     ensures { HasOneType }
 {}
 
-/// The types that the table computes for the `ref` forms of a typed term are those of what they store,
+/// States that the types that the table computes for the `ref` forms of a typed term are those of what they store,
 /// in reading order, and there are no others.
 pub fn ref_types_are_had()
     ensures had { (signature : Signature) (cells : ℕ → Option (Sort × Typ)) (places : ℕ → ℕ) (g : Scope)
@@ -140,42 +140,42 @@ pub fn ref_types_are_had()
         → ts ≡ ref_types_in signature.devices cells places g q i e }
 {}
 
-/// After a legal label of any kind a typed state is typed, whatever the answer of a device and the
+/// States that after a legal label of any kind a typed state is typed, whatever the answer of a device and the
 /// fresh location are, and the locations that had types keep them.
 pub fn labels_keep_types()
     ensures { (signature : Signature) (cells : StoreTyping) (s : State) (label : Label) (t : State)
         → IsTyped signature cells s → IsLegal s label t → IsTypedLater signature cells t }
 {}
 
-/// The same of a program that keeps that it is accepted.
+/// States that the states of an accepted program are typed.
 pub fn accepted_runs_are_typed(accepted: &Accepted)
     ensures { (labels : List Label) (t : State) → IsRun (tree_of accepted.now.program.term) labels t
         → (cells : StoreTyping) × IsTyped (signature_of accepted.now) cells t × IsOrderly t }
 {}
 
-/// The types of locations may be given, also of some that the store doesn't have. A state that they
-/// type stays typed by them after a legal label, where what it allocates has its sort and type there.
+/// States the same for given types of locations, also of some that the store doesn't have: a state that they
+/// type stays typed by them after a legal label, if what it allocates has its sort and type there.
 pub fn labels_keep_given_types()
     ensures { (signature : Signature) (cells : StoreTyping) (s : State) (label : Label) (t : State)
         → IsTypedBy signature cells s → IsLegal s label t → HasNewCellAfter signature cells s label
         → IsTypedBy signature cells t }
 {}
 
-/// So it does after a step of any member on one side of `unprotected`, whether it is active or not.
+/// States that it also does after a step of any member on one side of `unprotected`, whether it is active or not.
 pub fn steps_keep_given_types()
     ensures { (signature : Signature) (cells : StoreTyping) (s : State) (side : Side) (kind : StepKind) (i : ℕ) (t : State)
         → IsTypedBy signature cells s → Steps s side kind i t → HasNewCellOf signature cells s kind i
         → IsTypedBy signature cells t }
 {}
 
-/// A typed state has no member left, or its active member waits at a false condition, or some label is
+/// States that a typed state has no member left, or its active member waits at a false condition, or some label is
 /// legal.
 pub fn states_progress()
     ensures { (signature : Signature) (cells : StoreTyping) (s : State) → IsTyped signature cells s → StateProgresses s }
 {}
 
-/// While a member of a typed state is active, it waits at a false condition, or some label is legal;
-/// and where it waits, none is.
+/// States that while a member of a typed state is active, it waits at a false condition, or some label is legal;
+/// and if it waits, none is.
 pub fn active_members_progress()
     ensures goes_on { (signature : Signature) (cells : StoreTyping) (s : State) (i : ℕ) (term : Tree)
         → IsTyped signature cells s → at s.members i ≡ Some term → s.active ≡ Some i
@@ -185,21 +185,21 @@ pub fn active_members_progress()
         → Waits term → (label : Label) → after s label ≡ None }
 {}
 
-/// While nothing is active, each member of a typed state may become active, or makes a step or closes
+/// States that while nothing is active, each member of a typed state may become active, or makes a step or closes
 /// under `unprotected`.
 pub fn resting_members_progress()
     ensures { (signature : Signature) (cells : StoreTyping) (s : State) (i : ℕ) (term : Tree)
         → IsTyped signature cells s → at s.members i ≡ Some term → s.active ≡ None → GoesOn s i }
 {}
 
-/// Each local step is one of the strong semantics: of a fragment that closes, or a reduction in some
+/// States that each local step is one of the strong semantics: of a fragment that closes, or a reduction in some
 /// state, on the same side of `unprotected`.
 pub fn local_steps_reduce()
     ensures { (signature : Signature) (cells : StoreTyping) (side : Side) (redex part : Tree)
         → LocalStep signature cells side redex part → ClosesAtValue side redex part ⊎ HasReduction side redex part }
 {}
 
-/// What a legal label makes of a member of a typed state is a local run of it: its own step, fed what
+/// States that a legal label makes a local run of each member of a typed state: its own step, fed what
 /// the store held, or nothing.
 pub fn labels_run_locally()
     ensures { (signature : Signature) (cells : StoreTyping) (s : State) (label : Label) (t : State) (i : ℕ) (term last : Tree)

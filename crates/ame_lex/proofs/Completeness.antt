@@ -1,4 +1,4 @@
--- What a text is by the grammar is what is read of it.
+-- The outcome of a text by the grammar is the computed one.
 use Rattle.std.proofs.Common.{◌≡◌, ℕ, suc, ◌+◌, ◌<◌, ◌≤◌, cond, ◌∷◌, length, length-append, drop, refl, ap, ◌∙◌, add-zero, Err, arith}
 use Rattle.std.specs.List.{prefix_len}
 use Rattle.std.proofs.Math.Seq.{drop-append_seam}

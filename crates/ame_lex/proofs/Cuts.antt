@@ -1,4 +1,4 @@
--- What a stretch, a number or a token is where something else follows it.
+-- A stretch, a number or a token keeps its bytes if something else follows it.
 use Rattle.std.proofs.Common.{◌≡◌, ℕ, Bool, false, ℤ, [], ◌∷◌, ◌++◌, refl}
 use Rattle.ame_lex.specs.declared.tokens.Kind.{Kind}
 use Rattle.ame_lex.specs.Bytes.{Text, begins, IsStretch}

@@ -78,7 +78,7 @@ reaches (faulty {at = at} {text = text} {fault = fault} f) = record {
   goes = λ other outcome so l. subst (λ k. Lexes k other (with_front [] outcome)) (add-zero at) (subst (λ o. Lexes (at + 0) other o) (sym (with_front-none outcome)) l);
 }
 
--- where the text is cut: what is left of it, and the rest
+-- the place of the cut, with the bytes before it and the rest
 record Cut (tail part : Text) : Type 0 where
   after : Text
   split : tail ≡ part ++ after
@@ -126,7 +126,7 @@ tokens_before text fault place l at =
           (r.goes before.part (Ok before.tokens) before.cut.ends before.lexes),
     )
 
--- a bad byte is the fault of the text up to it
+-- a bad byte is the first fault of any text that ends with it
 record Spoiled (start : ℕ) (tail : Text) (place : ℕ) : Type 0 where
   part : Text
   cut : Cut tail part

@@ -1,4 +1,4 @@
--- What the test of a number's size says.
+-- The test of a number's size decides whether the number fits.
 use Rattle.std.proofs.Common.{◌≡◌, true, false, ℤ, pos, negsuc, FitsSigned, w64, arith}
 use Rattle.ame_lex.specs.Reading.{fits_literal}
 

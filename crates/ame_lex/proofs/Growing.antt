@@ -11,7 +11,7 @@ AllByRecursion-append : (P : ℕ → Type 0) (xs ys : List ℕ) → AllByRecursi
 AllByRecursion-append P [] ys all more = more
 AllByRecursion-append P (x ∷ xs) ys all more = (all.0, AllByRecursion-append P xs ys all.1 more)
 
--- the bytes at the front of a text that pass
+-- the first bytes of a text that pass
 passing : (ℕ → Bool) → Text → Text
 passing p text = take (prefix_len p text) text
 

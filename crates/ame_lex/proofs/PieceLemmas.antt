@@ -1,4 +1,4 @@
--- The piece at the front of a text, where the grammar has a number or a token there.
+-- The first piece of a text, if the grammar has a number or a token there.
 use Rattle.std.proofs.Common.{◌≡◌, ℕ, suc, ◌+◌, ◌<◌, Bool, true, false, cond, ℤ, pos, neg_ℤ, lit<, ◌∷◌, ◌++◌, length, refl, ap, ◌∙◌, arith}
 use Rattle.std.specs.List.{prefix_len}
 use Rattle.ame_lex.specs.declared.classes.Class.{Class}
@@ -14,7 +14,7 @@ use Rattle.ame_lex.proofs.RunLemmas.{one-plus, run_len, run_rest, run_front}
 use Rattle.ame_lex.proofs.FitLemmas.{fits_test}
 use Rattle.ame_lex.proofs.ReadingLemmas.{front}
 
--- what stands at the front of a text, by the class of its first byte
+-- the first piece of a text, by the class of its first byte
 pub front_by : (class : Class) (b : ℕ) (rest : Text) → class_of b ≡ class → front (b ∷ rest) ≡ piece_by class b rest
 unfolding first_piece
 front_by class b rest e = ap (λ k. piece_by k b rest) e

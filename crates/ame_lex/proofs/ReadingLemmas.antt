@@ -16,7 +16,7 @@ tokens_from-drop at (suc n) [] h = absurd (omega arith)
 tokens_from-drop at (suc n) (b ∷ text) h =
     let e : at + 1 + n ≡ at + suc n = omega arith in tokens_from-drop (at + 1) n text (omega arith) ∙ ap (λ k. tokens_from k 0 (drop n text)) e
 
--- the piece at the front of a text
+-- the first piece of a text
 abbrev pub front : Text → Piece
 front [] = Long
 front (b ∷ rest) = first_piece b rest

@@ -1,4 +1,4 @@
--- What is read of a text is what it is by the grammar.
+-- The computed outcome of a text is its outcome by the grammar.
 use Rattle.std.proofs.Common.{◌≡◌, ℕ, zero, suc, ◌+◌, ◌-◌, Bool, true, false, cond, ℤ, pos, neg_ℤ, [], ◌∷◌, length, take, drop, refl, sym, subst, add-zero, Ok, Err, arith}
 use Rattle.std.specs.List.{prefix_len}
 use Rattle.ame_lex.specs.declared.classes.Class.{Class}

@@ -14,7 +14,7 @@ use Rattle.ame_lex.specs.Reading.{tokens_of, token_at}
 use Rattle.ame_lex.proofs.PieceLemmas.{token-splits}
 use Rattle.ame_lex.proofs.Soundness.{lexes_text}
 
--- what follows the front of what stands from a place on
+-- the bytes that follow the first ones from a place on
 after_front : (whole text front rest : Text) (at : ℕ) → text ≡ drop at whole → text ≡ front ++ rest → rest ≡ drop (at + length front) whole
 after_front whole text front rest at e split =
     sym (drop-append_seam front rest) ∙ ap (drop (length front)) (sym split ∙ e) ∙ drop-drop (length front) at whole

@@ -1,4 +1,4 @@
--- What the bytes of a text are, and the stretches of bytes that tokens and comments are made of.
+-- The classes of bytes, and the stretches of bytes that tokens and comments are made of.
 use Rattle.std.specs.Prelude.{◌≡◌, ℕ, ◌-◌, ◌+◌, ◌*◌, ◌||◌, Bool, true, false, not, if◌then◌else◌, ◌==◌, List, [], ◌∷◌, ◌++◌}
 use Rattle.std.specs.List.{AllByRecursion, fold}
 use Rattle.std.specs.Char.{is_ascii_alphabetic, is_ascii_digit}
@@ -56,7 +56,7 @@ abbrev pub begins : (ℕ → Bool) → Text → Bool
 begins passes [] = false
 begins passes (b ∷ rest) = passes b
 
--- `stretch` are all the bytes that pass at the front of the text, and `rest` follows
+-- `stretch` are all bytes that pass at the beginning of the text, and `rest` follows
 pub record IsStretch (passes : ℕ → Bool) (text stretch rest : Text) : Type 0 where
   pub split : text ≡ stretch ++ rest
   pub pass : AllByRecursion (λ b. passes b ≡ true) stretch

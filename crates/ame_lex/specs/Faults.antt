@@ -1,4 +1,4 @@
--- What a fault says of its text.
+-- The facts about a text that its fault states.
 use Rattle.std.specs.Prelude.{◌≡◌, ℕ, List, Ok}
 use Rattle.ame_lex.specs.declared.tokens.Token.{Token}
 use Rattle.ame_lex.specs.declared.tokens.LexFault.{LexFault}

@@ -1,4 +1,4 @@
--- The grammar of tokens: which token stands at the front of a text, and what a whole text is.
+-- The grammar of tokens: which token a text begins with, and what a whole text is.
 use Rattle.std.specs.Prelude.{◌≡◌, ℕ, ◌+◌, true, false, ℤ, pos, neg_ℤ, FitsSigned, List, [], ◌∷◌, length, Result, Ok, Err}
 use Rattle.std.specs.Int.{w64}
 use Rattle.ame_lex.specs.declared.classes.Class.{Class}

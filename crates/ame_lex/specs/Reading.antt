@@ -1,4 +1,4 @@
--- What a text is, computed: its tokens, or its first fault.
+-- The outcome of a text, computed: its tokens, or its first fault.
 use Rattle.std.specs.Prelude.{◌≡◌, ℕ, zero, suc, ◌+◌, ◌-◌, ◌^◌, ◌<◌, ◌≤◌, Bool, true, false, if◌then◌else◌, nat_lt, ℤ, pos, negsuc, neg_ℤ, List, [], ◌∷◌, take, drop, Result, Ok, Err, ⊤}
 use Rattle.std.specs.List.{prefix_len}
 use Rattle.ame_lex.specs.declared.classes.Class.{Class}
@@ -26,13 +26,13 @@ value_of false digits = pos (decimal digits)
 abbrev pub checked : ℤ → ℕ → Text → Piece
 checked value len rest = if fits_literal value then (if begins is_word_byte rest then Bad len else Found (Number value) len) else Long
 
--- the number whose digits stand at the front of the text, after its sign
+-- the number whose digits the text begins with, after its sign
 unfoldable pub number : Bool → Text → Piece
 number is_negative text =
     let count = prefix_len is_digit text in
     checked (value_of is_negative (take count text)) ((if is_negative then 1 else 0) + count) (drop count text)
 
--- what stands at the front of a text, by the class of its first byte
+-- the first piece of a text, by the class of its first byte
 abbrev pub piece_by : Class → ℕ → Text → Piece
 piece_by Blank b rest = Space 1
 piece_by Semicolon b rest = Space (1 + prefix_len is_comment_byte rest)
@@ -45,7 +45,7 @@ piece_by Operator b rest = Found (Symbol b) 1
 piece_by Underscore b rest = Bad 0
 piece_by Other b rest = Bad 0
 
--- what stands at the front of a text: blanks or a comment, a token, or a fault
+-- the first piece of a text: blanks or a comment, a token, or a fault
 unfoldable pub first_piece : ℕ → Text → Piece
 first_piece b rest = piece_by (class_of b) b rest
 
@@ -62,7 +62,7 @@ with_first token (Err fault) = Err fault
 abbrev pub token_at : ℕ → Kind → ℕ → Token
 token_at at kind len = record { start = at; end = at + len; kind = kind }
 
--- the outcome at a piece, where `next` is the outcome after that many more bytes
+-- the outcome at a piece, if `next` is the outcome after that many more bytes
 abbrev pub after_piece : Piece → ℕ → (ℕ → LexOutcome) → LexOutcome
 after_piece (Space len) at next = next (len - 1)
 after_piece (Found kind len) at next = with_first (token_at at kind len) (next (len - 1))
@@ -85,7 +85,7 @@ AnswersTokens items (Ok tokens) outcome = outcome ≡ Ok (items tokens)
 AnswersTokens items (Err NoMemory) outcome = ⊤
 AnswersTokens items (Err fault) outcome = outcome ≡ Err fault
 
--- a piece that stands at the front of a text of this length
+-- the first piece of a text of this length
 abbrev pub FitsIn : ℕ → Piece → Type 0
 FitsIn size (Space len) = (0 < len) × (len ≤ size)
 FitsIn size (Found kind len) = (0 < len) × (len ≤ size)

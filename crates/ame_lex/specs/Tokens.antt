@@ -1,4 +1,4 @@
--- Where the tokens of a text stand.
+-- The places of the tokens of a text.
 use Rattle.std.specs.Prelude.{ℕ, ◌<◌, ◌≤◌, List, [], ◌∷◌, length, drop, slice_range}
 use Rattle.ame_lex.specs.declared.tokens.Token.{Token}
 use Rattle.ame_lex.specs.Bytes.{Text}

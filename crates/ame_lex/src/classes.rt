@@ -1,4 +1,4 @@
-//! What a byte is outside a comment.
+//! The classes of bytes outside comments.
 
 ghost use Rattle.std.specs.Prelude.{◌≡◌};
 ghost use Rattle.ame_lex.specs.Bytes as spec;

@@ -10,7 +10,7 @@ use crate::pieces::{Piece, first_piece};
 use crate::tokens::{LexFault, Token};
 use std::alloc::Global;
 
-/// The tokens of the text in order, or its first fault.
+/// Returns the tokens of the text in order, or its first fault.
 fn scan(alloc: Global, text: &[u8]) -> Result<Vec<Token>, LexFault>
     requires { length text.now ≤ max_text }
     ensures { AnswersTokens (λ v. v.items) result (tokens_of text.now) }
@@ -41,7 +41,7 @@ fn scan(alloc: Global, text: &[u8]) -> Result<Vec<Token>, LexFault>
     Ok(tokens)
 }
 
-/// The tokens of a text in order, in time linear in the text.
+/// Returns the tokens of a text in order, in time linear in the text.
 pub fn lex(alloc: Global, text: &[u8]) -> Result<Vec<Token>, LexFault>
     requires { length text.now ≤ max_text }
 

@@ -1,4 +1,4 @@
-//! Tokens of a program's text, or the first fault of the text and its place.
+//! Tokens of a program's text, or its first error and the place of that.
 #![tactic(auto)]
 
 mod classes;

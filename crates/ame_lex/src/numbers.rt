@@ -1,4 +1,4 @@
-//! Numbers at the front of a text.
+//! Numbers that a text begins with.
 
 ghost use Rattle.std.specs.Prelude.{◌≡◌, ◌+◌, ◌-◌, ◌^◌, ◌<◌, min, SomeIff, FitsSigned, length, if◌then◌else◌, true};
 ghost use Rattle.std.specs.Int.{w64};
@@ -9,7 +9,7 @@ use crate::pieces::Piece;
 use crate::runs::{digits_len, is_word_byte};
 use crate::tokens::Kind;
 
-/// The value of decimal digits, or the greatest `u64` where it doesn't fit.
+/// Returns the value of decimal digits, or the greatest `u64` if it doesn't fit.
 fn decimal(digits: &[u8]) -> u64
     ensures { result ≡ min (bytes.decimal digits.now) (2 ^ 64 - 1) }
 {
@@ -22,7 +22,7 @@ fn decimal(digits: &[u8]) -> u64
     value
 }
 
-/// The value of digits after their sign, where it fits.
+/// Returns the value of digits after their sign, if it fits.
 fn value_of(is_negative: bool, digits: &[u8]) -> Option<i64>
     ensures { SomeIff result (FitsSigned w64 (spec.value_of is_negative digits.now)) (spec.value_of is_negative digits.now) }
 {
@@ -33,7 +33,7 @@ fn value_of(is_negative: bool, digits: &[u8]) -> Option<i64>
     }
 }
 
-/// The number whose digits stand at the front of the text, after its sign.
+/// Returns the number whose digits the text begins with, after its sign.
 #[tactic(auto, unfolding(crate::specs::Reading::number))]
 pub fn number(is_negative: bool, text: &[u8]) -> Piece
     requires { bytes.begins bytes.is_digit text.now ≡ true }

@@ -1,4 +1,4 @@
-//! What stands at the front of a text.
+//! The first piece of a text.
 
 ghost use Rattle.std.specs.Prelude.{◌≡◌, ◌+◌, ◌^◌, ◌<◌, length, drop, slice_index};
 ghost use Rattle.ame_lex.specs.Reading as spec;
@@ -10,17 +10,17 @@ use crate::tokens::Kind;
 
 #[derive(Clone, Copy, Debug, PartialEq, Eq)]
 pub enum Piece {
-    /// A blank or a comment of so many bytes.
+    /// A blank or a comment, with its number of bytes.
     Space(usize),
-    /// A token of so many bytes.
+    /// A token, with its number of bytes.
     Found(Kind, usize),
-    /// A bad byte after so many bytes.
+    /// A bad byte, with the number of bytes before it.
     Bad(usize),
     /// A number that doesn't fit.
     Long,
 }
 
-/// The piece at the front of a text: its first byte, and the bytes after it.
+/// Returns the first piece of a text, given its first byte and the bytes after it.
 #[tactic(auto, unfolding(crate::specs::Reading::first_piece, crate::specs::Bytes::class_of))]
 pub fn first_piece(text: &[u8]) -> Piece
     requires { 0 < length text.now }

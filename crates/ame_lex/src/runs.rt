@@ -19,7 +19,7 @@ pub fn is_digit(b: u8) -> bool
     matches!(class_of(b), Class::Digit)
 }
 
-/// How many bytes at the front continue a word.
+/// Counts the first bytes that continue a word.
 pub fn word_len(text: &[u8]) -> usize
     ensures value { result ≡ prefix_len spec.is_word_byte text.now }
     ensures within { result ≤ length text.now }
@@ -27,7 +27,7 @@ pub fn word_len(text: &[u8]) -> usize
     text.iter().take_while(|b| is_word_byte(**b)).count()
 }
 
-/// How many digits there are at the front.
+/// Counts the first bytes that are digits.
 pub fn digits_len(text: &[u8]) -> usize
     ensures value { result ≡ prefix_len spec.is_digit text.now }
     ensures within { result ≤ length text.now }
@@ -35,7 +35,7 @@ pub fn digits_len(text: &[u8]) -> usize
     text.iter().take_while(|b| is_digit(**b)).count()
 }
 
-/// How many bytes there are before the first line feed.
+/// Counts the bytes before the first line feed.
 pub fn line_len(text: &[u8]) -> usize
     ensures value { result ≡ prefix_len spec.is_comment_byte text.now }
     ensures within { result ≤ length text.now }

@@ -1,11 +1,11 @@
-//! What a text is made of.
+//! Tokens, and the errors of a text that has none.
 
 ghost use Rattle.std.specs.Prelude.{◌≡◌};
 ghost use Rattle.ame_lex.specs.declared.tokens.LexFault.TheVariants.{NoMemory};
 
 use std::alloc::AllocFailed;
 
-/// What a token is. Its spelling is the bytes of the text that it takes.
+/// The kind of a token. Its spelling is the bytes of the text that it takes.
 #[derive(Clone, Copy, Debug, PartialEq, Eq)]
 pub enum Kind {
     Open,

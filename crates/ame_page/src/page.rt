@@ -47,6 +47,18 @@ impl Page {
         self.bytes
     }
 
+    /// Returns a page that begins with these bytes, without a copy.
+    pub fn from_bytes(bytes: Vec<u8>) -> Page
+        ensures { result ≡ bytes.items }
+    {
+        Page { bytes }
+    }
+
+    /// Returns the allocator that the page grows by.
+    pub fn allocator(&self) -> Global {
+        *self.bytes.allocator()
+    }
+
     /// Appends bytes.
     pub fn add(&mut self, bytes: &[u8]) -> Result<(), NoMemory>
         ensures { OnOk result (self.new ≡ self.old ++ bytes.now) }

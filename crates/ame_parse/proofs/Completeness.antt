@@ -1,4 +1,4 @@
--- What is spelled is read so.
+-- A text that spells a term is read as that term.
 use Rattle.std.proofs.Common.{◌≡◌, Option, ℕ, zero, suc, ◌+◌, ◌-◌, ◌<◌, ◌≤◌, refl, sym, ap, ◌∙◌, true, false, cond, pos, List, [], ◌∷◌, ◌++◌, length, drop, append_assoc, append-nil, arith, Ok, Err, Some, None}
 use Rattle.std.specs.Prelude.{nat_lt}
 use Rattle.std.proofs.Math.Dec.{eqb-suc-zero}
@@ -11,6 +11,8 @@ use Rattle.ame_term.specs.declared.types.Unary.{Unary}
 use Rattle.ame_term.specs.declared.types.Unary.TheVariants as unary
 use Rattle.ame_term.specs.declared.types.Binary.{Binary}
 use Rattle.ame_term.specs.declared.types.Binary.TheVariants as binary
+use Rattle.ame_term.specs.Operators.{operator_of}
+use Rattle.ame_term.proofs.OperatorLemmas.{symbol-finds}
 use Rattle.ame_term.specs.Tree.{Typ, OwnName, Head, Val, Tree}
 use Rattle.ame_parse.specs.declared.words.Word.{Word}
 use Rattle.ame_parse.specs.declared.words.Word.TheVariants as w
@@ -22,7 +24,7 @@ use Rattle.ame_parse.specs.Input.{Seen, Input, Parser, and_then, is_closing, ahe
 use Rattle.ame_parse.specs.Letters.{sort_of, effect_named, device_of, sort_by, effect_by, device_by, sort, numbered_sort, effect_word, device}
 use Rattle.ame_parse.specs.Types as t
 use Rattle.ame_parse.specs.Types.{ty, param}
-use Rattle.ame_parse.specs.Forms.{opener_of, op_of, row}
+use Rattle.ame_parse.specs.Forms.{opener_of, row}
 use Rattle.ame_parse.specs.Reading.{alone, two, choice, binding, more_from, more, first_two, sequence, reference, call, function, recursive, form_by, compound, variable, yielding, constant, atom_by, atom, term_by, nested, term}
 use Rattle.ame_parse.specs.Grammar as g
 use Rattle.ame_parse.specs.Grammar.{IsSort, IsEffect, IsOp, IsUnary, IsBinary, IsType, IsTypeForm, IsParam, IsFunctionHead, outside, IsTerm, IsForm, AreParts}
@@ -171,12 +173,8 @@ pub device_at : (i : Input) (d : ℕ) → ahead i ≡ a.Number (pos d) → d < 2
 unfolding device device_of
 device_at i d e small = ap (λ z. device_by (device_of z) i) e ∙ ap (λ b. device_by (cond b (Some d) None) i) (below_test d 256 small)
 
-op_at : (s : ℕ) (o : Op) → IsOp s o → op_of s ≡ Some o
-op_at s o g.plus = refl
-op_at s o g.minus = refl
-op_at s o g.star = refl
-op_at s o g.less = refl
-op_at s o g.equals = refl
+op_at : (s : ℕ) (o : Op) → IsOp s o → operator_of s ≡ Some o
+op_at _ _ (g.spells o) = symbol-finds o
 
 -- ---- types
 

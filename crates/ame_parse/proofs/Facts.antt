@@ -1,4 +1,4 @@
--- What holds of each term that is spelled.
+-- Facts about each term that is spelled.
 use Rattle.std.proofs.Common.{◌≡◌, refl, ◌∙◌, ℕ, ◌+◌, List, [], ◌∷◌, ◌++◌, length, length-append, arith, Option, Some, None}
 use Rattle.ame_term.specs.Tree.{Typ, OwnName, Head, Tree}
 use Rattle.ame_term.specs.SourceTerm.{nodes, all_nodes, IsSourceTerm, AreSourceTerms}

@@ -1,5 +1,6 @@
 -- Each fault that is read has its row among what is expected.
 use Rattle.std.proofs.Common.{◌≡◌, ℕ, zero, suc, ◌-◌, ◌<◌, ◌≤◌, ◌==◌, refl, sym, ap, subst, ◌∙◌, Bool, true, false, cond, ◌||◌, List, [], ◌∷◌, ◌++◌, Option, Some, None, Ok, Err, arith}
+use Rattle.std.specs.Prelude.{is_some}
 use Rattle.std.specs.Option.{option_map}
 use Rattle.ame_term.specs.declared.types.Sort.{Sort}
 use Rattle.ame_term.specs.declared.types.Effect.{Effect}
@@ -7,6 +8,7 @@ use Rattle.ame_term.specs.declared.types.Op.{Op}
 use Rattle.ame_term.specs.declared.types.Unary.TheVariants as unary
 use Rattle.ame_term.specs.declared.types.Binary.{Binary}
 use Rattle.ame_term.specs.declared.types.Binary.TheVariants as binary
+use Rattle.ame_term.specs.Operators.{operator_of}
 use Rattle.ame_term.specs.Tree.{Typ, Tree}
 use Rattle.ame_parse.specs.declared.words.Word.{Word}
 use Rattle.ame_parse.specs.declared.words.Word.TheVariants as w
@@ -20,7 +22,7 @@ use Rattle.ame_parse.specs.Input.{Input, ParseOutcome, Parser, and_then, ◌>>=�
 use Rattle.ame_parse.specs.Letters.{sort_of, effect_named, device_of, sort_by, effect_by, device_by, sort, numbered_sort, effect_word, device}
 use Rattle.ame_parse.specs.Types as t
 use Rattle.ame_parse.specs.Types.{ty, param}
-use Rattle.ame_parse.specs.Forms.{opener_of, op_of, row}
+use Rattle.ame_parse.specs.Forms.{opener_of, row}
 use Rattle.ame_parse.specs.Reading.{alone, two, choice, binding, more_from, more, first_two, sequence, reference, call, function, recursive, form_by, variable, yielding, constant, atom_by, atom, term_by, nested, term, max_open, program}
 use Rattle.ame_parse.specs.Grammar as g
 use Rattle.ame_parse.specs.Grammar.{IsSort, IsEffect, IsParam, IsTerm, AreParts}
@@ -39,7 +41,6 @@ use Rattle.ame_parse.specs.Text.{ReadingFault, reading_by, reading}
 use Rattle.ame_lex.specs.Bytes.{Text}
 use Rattle.ame_lex.specs.Reading.{LexOutcome, tokens_of}
 use Rattle.ame_lex.specs.declared.tokens.LexFault.{LexFault}
-use Rattle.ame_term.specs.declared.types.Op.TheVariants as op
 
 -- whatever fault the parser has from here has the property
 abbrev pub Stops : {A : Type 0} → Parser A → Input → (ParseFault → Type 0) → Type 0
@@ -50,7 +51,7 @@ stops_by : {A B : Type 0} (o : ParseOutcome A) (f : A → Parser B) (F : ParseFa
 stops_by (Ok p) f F fault h next e = next p.0 p.1 refl fault e
 stops_by (Err found) f F fault h next e = let same : found ≡ fault = cc in subst F same (h found refl)
 
--- a piece, and what goes on behind it
+-- a piece, and the reading after it
 step : {A B : Type 0} (piece : Piece) (pieces : List Piece) (p : Parser A) (f : A → Parser B) (i : Input) → Stops p i (Fails piece i)
     → ((y : A) (j : Input) → p i ≡ Ok (y, j) → Passes piece i j × Stops (f y) j (AreFailing pieces j)) → Stops (p >>= f) i (AreFailing (piece ∷ pieces) i)
 step piece pieces p f i h next fault e =
@@ -376,26 +377,16 @@ module _ (n : ℕ) (stops : (i : Input) → Stops (term n) i (Fails (Piece.Term 
   word_stops i e w.Rec is fault read = x.in_form e (Shape.recursive is) (recursive_stops _ fault read)
   word_stops i e _ is fault read = no_form_at i e (ap begins_form is) fault (cc)
 
-  no_operator : (s : ℕ) (plus minus star less equals : Bool)
-      → cond plus (Some op.Add) (cond minus (Some op.Sub) (cond star (Some op.Mul) (cond less (Some op.Less) (cond equals (Some op.Same) None)))) ≡ None
-      → (plus || minus || star || less || equals) ≡ false
-  no_operator s true minus star less equals e = absurd (cc)
-  no_operator s false true star less equals e = absurd (cc)
-  no_operator s false false true less equals e = absurd (cc)
-  no_operator s false false false true equals e = absurd (cc)
-  no_operator s false false false false true e = absurd (cc)
-  no_operator s false false false false false e = refl
-
-  symbol_stops : (i : Input) → ahead i ≡ a.Opening → (s : ℕ) → ahead (advanced (marked i)) ≡ a.Symbol s → (o : Option Op) → op_of s ≡ o
+  symbol_stops : (i : Input) → ahead i ≡ a.Opening → (s : ℕ) → ahead (advanced (marked i)) ≡ a.Symbol s → (o : Option Op) → operator_of s ≡ o
       → Stops (form_by (term n) (param n) (ty n) (option_map (λ op. opener.Two (binary.Bin op)) o)) (advanced (marked i)) (Fails (Piece.Term (suc n)) i)
   symbol_stops i e s is (Some o) found fault read = x.in_form e (Shape.two is (g.operation (op_is s o found))) (two_stops (binary.Bin o) _ fault read)
   symbol_stops i e s is None found fault read =
-      no_form_at i e (ap begins_form is ∙ no_operator s (s == 43) (s == 45) (s == 42) (s == 60) (s == 61) found) fault (cc)
+      no_form_at i e (ap begins_form is ∙ ap is_some found) fault (cc)
 
   form_stops : (i : Input) → ahead i ≡ a.Opening → (next : Ahead) → ahead (advanced (marked i)) ≡ next → FormStops i next
   unfolding opener_of
   form_stops i e (a.Reserved word) is = word_stops i e word is
-  form_stops i e (a.Symbol s) is = symbol_stops i e s is (op_of s) refl
+  form_stops i e (a.Symbol s) is = symbol_stops i e s is (operator_of s) refl
   form_stops i e _ is = λ fault read. no_form_at i e (ap begins_form is) fault (cc)
 
 -- ---- terms

@@ -1,13 +1,15 @@
 -- Each fault that is expected is the one that is read.
 use Rattle.std.proofs.Common.{◌≡◌, ℕ, zero, suc, ◌-◌, ◌≤◌, ◌==◌, ◌||◌, refl, sym, ap, ◌∙◌, Bool, true, false, cond, List, [], ◌∷◌, Option, Some, None, Err, arith}
+use Rattle.std.specs.Prelude.{is_some}
 use Rattle.std.specs.Option.{option_map}
 use Rattle.ame_lex.specs.Bytes.{Text}
 use Rattle.ame_term.specs.declared.types.Sort.{Sort}
 use Rattle.ame_term.specs.declared.types.Effect.{Effect}
-use Rattle.ame_term.specs.declared.types.Op.TheVariants as op
+use Rattle.ame_term.specs.declared.types.Op.{Op}
 use Rattle.ame_term.specs.declared.types.Unary.TheVariants as unary
 use Rattle.ame_term.specs.declared.types.Binary.{Binary}
 use Rattle.ame_term.specs.declared.types.Binary.TheVariants as binary
+use Rattle.ame_term.specs.Operators.{operator_of}
 use Rattle.ame_term.specs.Tree.{Tree}
 use Rattle.ame_parse.specs.declared.words.Word.{Word}
 use Rattle.ame_parse.specs.declared.words.Word.TheVariants as w
@@ -286,19 +288,14 @@ no_word w.FunType none = refl
 no_word w.PairType none = refl
 no_word _ none = absurd (cc)
 
-no_op : (plus minus star less equals : Bool) → (plus || minus || star || less || equals) ≡ false
-    → cond plus (Some op.Add) (cond minus (Some op.Sub) (cond star (Some op.Mul) (cond less (Some op.Less) (cond equals (Some op.Same) None)))) ≡ None
-no_op true minus star less equals e = absurd (cc)
-no_op false true star less equals e = absurd (cc)
-no_op false false true less equals e = absurd (cc)
-no_op false false false true equals e = absurd (cc)
-no_op false false false false true e = absurd (cc)
-no_op false false false false false e = refl
+no_op : (o : Option Op) → is_some o ≡ false → o ≡ None
+no_op None none = refl
+no_op (Some o) none = absurd (cc)
 
 no_opener : (next : Ahead) → begins_form next ≡ false → opener_of next ≡ None
 unfolding opener_of
 no_opener (a.Reserved word) none = no_word word none
-no_opener (a.Symbol s) none = ap (option_map (λ o. opener.Two (binary.Bin o))) (no_op (s == 43) (s == 45) (s == 42) (s == 60) (s == 61) none)
+no_opener (a.Symbol s) none = ap (option_map (λ o. opener.Two (binary.Bin o))) (no_op (operator_of s) none)
 no_opener _ none = refl
 
 no_form_errs : (n : ℕ) (i : Input) → begins_form (ahead i) ≡ false → compound (term n) (param n) (ty n) i ≡ Err (Expected (place i) want.Form)
@@ -392,7 +389,7 @@ unfolding program
 program_errs (first e) = rw e refl
 program_errs (behind (Passes.term h) z) = rw (term_reads h) (rw (last_errs z) refl)
 
--- a fault of the text is the one that is read
+-- an error that the table gives a text is the one that is read
 pub expected_is_read : (text : Text) (fault : ParseFault) → LexesAsRead text → Faults text fault → reading text ≡ Err (ReadingFault.Syntactic fault)
 unfolding reading
 expected_is_read text fault lexes (x.faulty {tokens = tokens} lexed fails) =

@@ -56,7 +56,7 @@ one_place (x ∷ before) (y ∷ before') rest rest' from end h e place =
     let found = one_place before before' rest rest' (x.place + 1) end h.1 (tail_same x y (before ++ rest) (before' ++ rest') e) place in
     (cc, found.1)
 
--- ---- where the program stops
+-- ---- the place at which the program stops
 
 record Stop (m : ℕ) (i : Input) (fault : ParseFault) : Type 0 where
   before : List Seen

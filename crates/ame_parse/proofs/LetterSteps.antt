@@ -1,6 +1,5 @@
--- What effects, sorts, device numbers and operators lead to.
+-- The outcomes of reading effects, sorts, device numbers and operators.
 use Rattle.std.proofs.Common.{◌≡◌, ℕ, ◌<◌, ◌==◌, ℤ, pos, negsuc, Bool, true, false, cond, refl, subst, sym, Some, None, codes}
-use Rattle.std.proofs.lemmas.Bool.{eqb-true}
 use Rattle.std.proofs.lemmas.Slice.Eq.{bytes_eq-Decides}
 use Rattle.std.specs.Prelude.{nat_lt}
 use Rattle.std.specs.Str.{bytes_eq}
@@ -12,12 +11,12 @@ use Rattle.ame_term.specs.declared.types.Effect.{Effect}
 use Rattle.ame_term.specs.declared.types.Effect.TheVariants as effects
 use Rattle.ame_term.specs.declared.types.TyNo.{TyNo}
 use Rattle.ame_term.specs.declared.types.Op.{Op}
-use Rattle.ame_term.specs.declared.types.Op.TheVariants as op
+use Rattle.ame_term.specs.Operators.{operator_of}
+use Rattle.ame_term.proofs.OperatorLemmas.{found-spells}
 use Rattle.ame_parse.specs.declared.ahead.Ahead.{Ahead}
 use Rattle.ame_parse.specs.declared.ahead.Ahead.TheVariants as a
 use Rattle.ame_parse.specs.Input.{Input, Parser, ◌>>=◌, ahead, spelling, advanced, ref_number, ref_counted}
 use Rattle.ame_parse.specs.Letters.{sort_of, effect_named, small, device_of, sort_by, effect_by, device_by, sort, numbered_sort, effect_word, device}
-use Rattle.ame_parse.specs.Forms.{op_of}
 use Rattle.ame_parse.specs.Grammar as g
 use Rattle.ame_parse.specs.Grammar.{IsSort, IsEffect, IsOp}
 use Rattle.ame_parse.proofs.Steps.{Leads, leads_pure, leads_on, leads_at}
@@ -79,20 +78,5 @@ pub leads_device : {B : Type 0} (f : ℕ → Parser B) (Q : B → Input → Type
 unfolding device
 leads_device f Q i next = leads_at device f (IsDevice i) (advanced i) Q i (device_leads_by (ahead i) i refl) next
 
-op_test : (s : ℕ) (o : Op) (plus minus star less : Bool) (equals : Bool)
-    → s == 43 ≡ plus → s == 45 ≡ minus → s == 42 ≡ star → s == 60 ≡ less → s == 61 ≡ equals
-    → cond plus (Some op.Add) (cond minus (Some op.Sub) (cond star (Some op.Mul) (cond less (Some op.Less) (cond equals (Some op.Same) None)))) ≡ Some o → IsOp s o
-op_test s o true minus star less equals e1 e2 e3 e4 e5 e =
-    let same : op.Add ≡ o = cc in subst (IsOp s) same (subst (λ n. IsOp n op.Add) (sym (eqb-true s 43 e1)) g.plus)
-op_test s o false true star less equals e1 e2 e3 e4 e5 e =
-    let same : op.Sub ≡ o = cc in subst (IsOp s) same (subst (λ n. IsOp n op.Sub) (sym (eqb-true s 45 e2)) g.minus)
-op_test s o false false true less equals e1 e2 e3 e4 e5 e =
-    let same : op.Mul ≡ o = cc in subst (IsOp s) same (subst (λ n. IsOp n op.Mul) (sym (eqb-true s 42 e3)) g.star)
-op_test s o false false false true equals e1 e2 e3 e4 e5 e =
-    let same : op.Less ≡ o = cc in subst (IsOp s) same (subst (λ n. IsOp n op.Less) (sym (eqb-true s 60 e4)) g.less)
-op_test s o false false false false true e1 e2 e3 e4 e5 e =
-    let same : op.Same ≡ o = cc in subst (IsOp s) same (subst (λ n. IsOp n op.Same) (sym (eqb-true s 61 e5)) g.equals)
-op_test s o false false false false false e1 e2 e3 e4 e5 e = absurd (cc)
-
-pub op_is : (s : ℕ) (o : Op) → op_of s ≡ Some o → IsOp s o
-op_is s o e = op_test s o (s == 43) (s == 45) (s == 42) (s == 60) (s == 61) refl refl refl refl refl e
+pub op_is : (s : ℕ) (o : Op) → operator_of s ≡ Some o → IsOp s o
+op_is s o e = subst (λ (byte : ℕ). IsOp byte o) (found-spells s o e) (g.spells o)

@@ -1,4 +1,4 @@
--- What is read, or the fault, depends on the lexemes alone, and on none after the next one.
+-- The outcome of reading depends on the lexemes alone, and on none after the next one.
 use Rattle.std.proofs.Common.{◌≡◌, refl, sym, ap, subst, ◌∙◌, ℕ, ◌+◌, ◌-◌, ◌≤◌, List, [], ◌∷◌, ◌++◌, length, map, take, drop, length-append, append_assoc, arith, Option, Some, None, Ok, Err}
 use Rattle.std.proofs.lemmas.List.{take-append-drop}
 use Rattle.ame_lex.specs.Bytes.{Text}
@@ -36,9 +36,9 @@ spelling_is (token ∷ rest) = refl
 pub spelling_alike : (rest rest' : List Seen) → first_lexeme rest' ≡ first_lexeme rest → spelling_in rest' ≡ spelling_in rest
 spelling_alike rest rest' alike = spelling_is rest' ∙ ap spelling_by alike ∙ sym (spelling_is rest)
 
--- ---- fronts of the same lexemes
+-- ---- prefixes of the same lexemes
 
--- the list begins with tokens of these lexemes, and then with two fronts of theirs
+-- the list begins with tokens of these lexemes, and then with two prefixes of theirs
 record Cut (first second list : List Seen) : Type 0 where
   front : List Seen
   back : List Seen
@@ -97,7 +97,7 @@ pub record Gives {A : Type 0} (o : ParseOutcome A) (x : A) (j : Input) (end : �
   pub left : last.rest ≡ rest'
   pub ends : last.end ≡ end
 
--- What was taken, or what stands before the fault, gives the same again, wherever its tokens stand and whatever comes after the next one.
+-- The tokens that were taken, or those before the fault, give the same again, at any places and before any tokens after the next one.
 pub data LocalAt {A : Type 0} (m : ℕ) (p : Parser A) (i : Input) : ParseOutcome A → Type 0 where
   goes : {x : A} {j : Input} (used : List Seen) → i.rest ≡ used ++ j.rest → j.end ≡ i.end
       → ((i' : Input) (rest' : List Seen) → Follows m i used j.rest i' rest' → Gives (p i') x j i'.end rest')
@@ -110,7 +110,7 @@ abbrev pub IsLocal : {A : Type 0} → ℕ → Parser A → Type 0
 IsLocal m p = (i : Input) → length i.rest ≤ m → LocalAt m p i (p i)
 
 module _ {A B : Type 0} (m : ℕ) (p : Parser A) (f : A → Parser B) (i : Input) where
-  -- the first step of a twin, and where it leads
+  -- the first step of a twin, and its outcome
   first_step : (x : A) (j : Input) (used : List Seen) → ((i' : Input) (rest' : List Seen) → Follows m i used j.rest i' rest' → Gives (p i') x j i'.end rest')
       → (others next : List Seen) → j.rest ≡ others ++ next → (i' : Input) (rest' : List Seen) → Follows m i (used ++ others) next i' rest'
       → (k : Input) × (p i' ≡ Ok (x, k)) × (k.end ≡ i'.end) × Follows m j others next k rest'
@@ -183,11 +183,11 @@ nothing_used (x ∷ used') e = absurd (cc)
 pub all_left : {m : ℕ} {i i' : Input} {next rest' : List Seen} → Follows m i [] next i' rest' → i'.rest ≡ rest'
 all_left {rest' = rest'} follows = follows.split ∙ ap (λ z. z ++ rest') (nothing_used follows.used' follows.same)
 
--- the next lexeme of a twin, where nothing is taken
+-- the next lexeme of a twin, if nothing is taken
 pub next_alike : {m : ℕ} {i i' : Input} {rest' : List Seen} → Follows m i [] i.rest i' rest' → first_lexeme i'.rest ≡ first_lexeme i.rest
 next_alike follows = ap first_lexeme (all_left follows) ∙ follows.alike
 
--- a step that takes nothing and tells something of the next lexeme
+-- a step that takes nothing and depends on the next lexeme
 pub local_tell : {A : Type 0} (m : ℕ) (tell : Input → A) → ((i i' : Input) → IsTwin i i' → first_lexeme i'.rest ≡ first_lexeme i.rest → tell i' ≡ tell i)
     → IsLocal m (λ i. Ok (tell i, i))
 local_tell m tell same i few = goes [] refl refl (λ i' rest' follows.
@@ -239,7 +239,7 @@ first_taken [] (x ∷ used') rest' same alike = absurd (cc)
 first_taken (token ∷ rest) [] rest' same alike = absurd (cc)
 first_taken (token ∷ rest) (x ∷ used') rest' same alike = ap Some (head_same _ _ _ _ same)
 
--- a step that takes the next token, and tells something of it
+-- a step that takes the next token, and depends on it
 pub local_take : {A : Type 0} (m : ℕ) (tell : Input → A) (change : Input → Input) → ((i : Input) → (change i).rest ≡ drop 1 i.rest) → ((i : Input) → (change i).end ≡ i.end)
     → ((i i' : Input) → IsTwin i i' → first_lexeme i'.rest ≡ first_lexeme i.rest → (tell i' ≡ tell i) × IsTwin (change i) (change i'))
     → IsLocal m (λ i. Ok (tell i, change i))

@@ -113,7 +113,7 @@ no_number g.print k = tt
 no_number g.fst k = tt
 no_number g.snd k = tt
 
--- the forms have the numbers from that on which the count had where the term begins
+-- the forms have the numbers from the count that was reached before the term
 mutual
   unfolding IsNumbered
 

@@ -1,4 +1,4 @@
--- What is read is spelled so.
+-- A term that is read is spelled by its tokens.
 use Rattle.std.proofs.Common.{◌≡◌, ℕ, zero, suc, refl, sym, ap, subst, ◌∙◌, Bool, true, false, cond, List, [], ◌∷◌, ◌++◌, append_assoc, append-nil, Option, Some, None, Ok, Err}
 use Rattle.std.specs.Option.{option_map}
 use Rattle.ame_term.specs.declared.types.Op.{Op}
@@ -6,6 +6,7 @@ use Rattle.ame_term.specs.declared.types.Unary.{Unary}
 use Rattle.ame_term.specs.declared.types.Unary.TheVariants as unary
 use Rattle.ame_term.specs.declared.types.Binary.{Binary}
 use Rattle.ame_term.specs.declared.types.Binary.TheVariants as binary
+use Rattle.ame_term.specs.Operators.{operator_of}
 use Rattle.ame_term.specs.Tree.{Val, Tree, unit_tree}
 use Rattle.ame_parse.specs.declared.words.Word.{Word}
 use Rattle.ame_parse.specs.declared.words.Word.TheVariants as w
@@ -14,7 +15,7 @@ use Rattle.ame_parse.specs.declared.ahead.Ahead.TheVariants as a
 use Rattle.ame_parse.specs.declared.fault.ParseFault.TheVariants.{UnknownName}
 use Rattle.ame_parse.specs.declared.forms.Opener.TheVariants as opener
 use Rattle.ame_parse.specs.Input.{Input, Parser, ◌>>=◌, pure, is_closing, ahead, spelling, place, advanced, marked, name_number, named, binds_name, bound, unbound, ref_number, ref_counted, tokens_left, sees_closing}
-use Rattle.ame_parse.specs.Forms.{opener_of, op_of, row}
+use Rattle.ame_parse.specs.Forms.{opener_of, row}
 use Rattle.ame_parse.specs.Types.{ty, param}
 use Rattle.ame_parse.specs.Reading.{alone, two, choice, binding, more_from, more, first_two, sequence, reference, call, function, recursive, form_by, compound, variable, yielding, constant, atom_by, atom, term_by, term_of, nested, term}
 use Rattle.ame_parse.specs.Grammar as g
@@ -138,7 +139,7 @@ module _ (n : ℕ) (part : Parser Tree) (gives : (i : Input) → Leads part i (I
   abbrev LeadsForm : Input → Ahead → Type 0
   LeadsForm i next = Leads (form_by part (param n) (ty n) (opener_of next)) i (IsForm n i)
 
-  operation_leads : (s : ℕ) (i : Input) → ahead i ≡ a.Symbol s → (o : Option Op) → op_of s ≡ o
+  operation_leads : (s : ℕ) (i : Input) → ahead i ≡ a.Symbol s → (o : Option Op) → operator_of s ≡ o
       → Leads (form_by part (param n) (ty n) (option_map (λ op. opener.Two (binary.Bin op)) o)) i (IsForm n i)
   operation_leads s i e (Some o) e' = two_leads (binary.Bin o) (a.Symbol s) i e (g.operation (op_is s o e'))
   operation_leads s i e None e' = λ x j read. absurd (cc)
@@ -172,7 +173,7 @@ module _ (n : ℕ) (part : Parser Tree) (gives : (i : Input) → Leads part i (I
   compound_leads_by : (next : Ahead) (i : Input) → ahead i ≡ next → LeadsForm i next
   unfolding opener_of
   compound_leads_by (a.Reserved word) i e = word_leads word i e
-  compound_leads_by (a.Symbol s) i e = operation_leads s i e (op_of s) refl
+  compound_leads_by (a.Symbol s) i e = operation_leads s i e (operator_of s) refl
   compound_leads_by _ i e = λ x j read. absurd (cc)
 
   compound_leads : (i : Input) → Leads (compound part (param n) (ty n)) i (IsForm n i)
@@ -222,7 +223,7 @@ atom_leads n i = atom_leads_by n (ahead i) i refl
 
 -- ---- terms
 
--- a parser of the forms in which at most so many parentheses are open
+-- a parser of the forms in which at most this number of parentheses is open
 abbrev LeadsForms : ℕ → Parser Tree → Type 0
 LeadsForms n form = (i : Input) → ahead i ≡ a.Opening → Leads form (marked i) (IsTerm n i)
 

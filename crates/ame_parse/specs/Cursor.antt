@@ -1,4 +1,4 @@
--- What a `Reader` shows, and what it keeps.
+-- The view of a `Reader`, and what it keeps.
 use Rattle.std.specs.Prelude.{◌<◌, ◌+◌, ◌^◌, All, map, length}
 use Rattle.ame_lex.specs.Tokens.{IsWithin}
 use Rattle.ame_parse.specs.declared.reader.Reader.TheInside.{Inside}

@@ -1,5 +1,5 @@
--- What is expected where, and which fault there is where something else stands.
-use Rattle.std.specs.Prelude.{◌≡◌, ℕ, zero, suc, ◌<◌, ◌==◌, ◌||◌, pos, not, Bool, true, false, List, [], ◌∷◌, Ok}
+-- The table of what is expected, and the fault of anything that isn't.
+use Rattle.std.specs.Prelude.{◌≡◌, ℕ, zero, suc, ◌<◌, ◌==◌, ◌||◌, pos, not, Bool, true, false, List, [], ◌∷◌, Ok, is_some}
 use Rattle.ame_lex.specs.Bytes.{Text}
 use Rattle.ame_lex.specs.Grammar.{Lexes}
 use Rattle.ame_lex.specs.declared.tokens.Token.{Token}
@@ -7,6 +7,7 @@ use Rattle.ame_term.specs.declared.types.Sort.{Sort}
 use Rattle.ame_term.specs.declared.types.Effect.{Effect}
 use Rattle.ame_term.specs.declared.types.Unary.{Unary}
 use Rattle.ame_term.specs.declared.types.Binary.{Binary}
+use Rattle.ame_term.specs.Operators.{operator_of}
 use Rattle.ame_term.specs.Tree.{Typ, Tree}
 use Rattle.ame_parse.specs.declared.words.Word.{Word}
 use Rattle.ame_parse.specs.declared.words.Word.TheVariants as w
@@ -44,9 +45,9 @@ is_type_form_word w.FunType = true
 is_type_form_word w.PairType = true
 is_type_form_word _ = false
 
--- one of `+`, `-`, `*`, `<` and `=`
+-- a byte that spells an operator
 abbrev pub is_operator : ℕ → Bool
-is_operator symbol = symbol == 43 || symbol == 45 || symbol == 42 || symbol == 60 || symbol == 61
+is_operator symbol = is_some (operator_of symbol)
 
 abbrev pub begins_term : Ahead → Bool
 begins_term (a.Number value) = true
@@ -72,7 +73,7 @@ begins_type_form _ = false
 
 -- ---- what must stand after one another
 
--- What must stand next. The numbers of terms, types, parameters and parts are how many parentheses may be open in them.
+-- The next piece that is expected. The numbers of terms, types, parameters and parts bound the parentheses that may be open in them.
 pub data Piece : Type 0 where
   Term : ℕ → Piece
   -- the parts of a form up to its closing parenthesis
@@ -102,7 +103,7 @@ pub data Passes : Piece → Input → Input → Type 0 where
   binder : {x : ℕ} {i : Input} → Passes (Piece.Binder x) i (bound x i)
   counter : {i : Input} → Passes Piece.Counter i (ref_counted i)
 
--- What must stand after the word or the symbol of a form of terms.
+-- The pieces that are expected after the word or the symbol of a form of terms.
 pub data Shape (n : ℕ) (i : Input) : List Piece → Type 0 where
   function : ahead i ≡ a.Reserved w.Fn
       → Shape n i (Piece.EffectLetter ∷ Piece.Param n ∷ Piece.Binder (name_number (advanced (advanced (advanced i)))) ∷ Piece.Term n ∷ Piece.Closing ∷ [])
@@ -119,7 +120,7 @@ pub data Shape (n : ℕ) (i : Input) : List Piece → Type 0 where
   async : ahead i ≡ a.Reserved w.Async → Shape n i (Piece.Term n ∷ Piece.Closing ∷ [])
   unprotected : ahead i ≡ a.Reserved w.Unprotected → Shape n i (Piece.Term n ∷ Piece.Closing ∷ [])
 
--- What must stand after the word of a form of types.
+-- The pieces that are expected after the word of a form of types.
 pub data TypeShape (n : ℕ) (i : Input) : List Piece → Type 0 where
   ref_type : ahead i ≡ a.Reserved w.RefType → TypeShape n i (Piece.SortLetter ∷ Piece.Ty n ∷ Piece.Closing ∷ [])
   fun_type : ahead i ≡ a.Reserved w.FunType → TypeShape n i (Piece.EffectLetter ∷ Piece.Ty n ∷ Piece.Ty n ∷ Piece.Closing ∷ [])

@@ -1,4 +1,4 @@
--- Where a fault stands, and what is the same of two texts up to there.
+-- The place of a fault, and the tokens that two texts share up to there.
 use Rattle.std.specs.Prelude.{◌≡◌, ℕ, List, [], ◌∷◌, map, Option, Some, None, Ok}
 use Rattle.ame_lex.specs.Bytes.{Text}
 use Rattle.ame_lex.specs.Reading.{tokens_of}

@@ -1,10 +1,9 @@
--- What the word or the symbol after an opening parenthesis begins.
-use Rattle.std.specs.Prelude.{ℕ, ◌==◌, if◌then◌else◌, List, [], ◌∷◌, Option, Some, None}
+-- The form that begins with a word or a symbol after an opening parenthesis.
+use Rattle.std.specs.Prelude.{List, [], ◌∷◌, Option, Some, None}
 use Rattle.std.specs.Option.{option_map}
-use Rattle.ame_term.specs.declared.types.Op.{Op}
-use Rattle.ame_term.specs.declared.types.Op.TheVariants as op
 use Rattle.ame_term.specs.declared.types.Unary.TheVariants as unary
 use Rattle.ame_term.specs.declared.types.Binary.TheVariants as binary
+use Rattle.ame_term.specs.Operators.{operator_of}
 use Rattle.ame_term.specs.Tree.{Tree, Trees}
 use Rattle.ame_parse.specs.declared.words.Word.{Word}
 use Rattle.ame_parse.specs.declared.words.Word.TheVariants as w
@@ -36,20 +35,10 @@ opener_of_word w.Fn = Some opener.Fn
 opener_of_word w.Rec = Some opener.Rec
 opener_of_word _ = None
 
--- the operator of a symbol
-abbrev pub op_of : ℕ → Option Op
-op_of symbol =
-    if symbol == 43 then Some op.Add
-    else (if symbol == 45 then Some op.Sub
-    else (if symbol == 42 then Some op.Mul
-    else (if symbol == 60 then Some op.Less
-    else (if symbol == 61 then Some op.Same
-    else None))))
-
 -- what begins with this after its parenthesis
 unfoldable pub opener_of : Ahead → Option Opener
 opener_of (a.Reserved word) = opener_of_word word
-opener_of (a.Symbol symbol) = option_map (λ op. opener.Two (binary.Bin op)) (op_of symbol)
+opener_of (a.Symbol symbol) = option_map (λ op. opener.Two (binary.Bin op)) (operator_of symbol)
 opener_of _ = None
 
 -- the parts of a `do` form

@@ -1,4 +1,4 @@
--- The grammar: which term the tokens in front of an input spell, and which program a text spells.
+-- The grammar: which term the next tokens of an input spell, and which program a text spells.
 use Rattle.std.specs.Prelude.{◌≡◌, ℕ, suc, ◌<◌, ℤ, pos, true, false, List, [], ◌∷◌, Option, Some, None, Ok, codes}
 use Rattle.ame_lex.specs.Bytes.{Text}
 use Rattle.ame_lex.specs.Grammar.{Lexes}
@@ -8,11 +8,11 @@ use Rattle.ame_term.specs.declared.types.Sort.TheVariants as sorts
 use Rattle.ame_term.specs.declared.types.Effect.{Effect}
 use Rattle.ame_term.specs.declared.types.Effect.TheVariants as effects
 use Rattle.ame_term.specs.declared.types.Op.{Op}
-use Rattle.ame_term.specs.declared.types.Op.TheVariants as op
 use Rattle.ame_term.specs.declared.types.Unary.{Unary}
 use Rattle.ame_term.specs.declared.types.Unary.TheVariants as unary
 use Rattle.ame_term.specs.declared.types.Binary.{Binary}
 use Rattle.ame_term.specs.declared.types.Binary.TheVariants as binary
+use Rattle.ame_term.specs.Operators.{operator}
 use Rattle.ame_term.specs.Tree.{Typ, OwnName, Head, Val, Tree, unit_tree}
 use Rattle.ame_parse.specs.declared.words.Word.{Word}
 use Rattle.ame_parse.specs.declared.words.Word.TheVariants as w
@@ -37,11 +37,7 @@ pub data IsEffect : Input → Effect → Type 0 where
 
 -- The symbol of an operator.
 pub data IsOp : ℕ → Op → Type 0 where
-  plus : IsOp 43 op.Add
-  minus : IsOp 45 op.Sub
-  star : IsOp 42 op.Mul
-  less : IsOp 60 op.Less
-  equals : IsOp 61 op.Same
+  spells : (op : Op) → IsOp (operator op).symbol op
 
 -- The word of a form that is a word and one part.
 pub data IsUnary : Word → Unary → Type 0 where
@@ -61,7 +57,7 @@ pub data IsBinary : Ahead → Binary → Type 0 where
   operation : {symbol : ℕ} {op : Op} → IsOp symbol op → IsBinary (a.Symbol symbol) (binary.Bin op)
 
 mutual
-  -- The first input begins with a type, in which at most so many parentheses are open, and goes on as the second.
+  -- The first input begins with a type, in which at most n parentheses are open, and goes on as the second.
   pub data IsType : ℕ → Input → Typ → Input → Type 0 where
     unit_type : {n : ℕ} {i : Input} → ahead i ≡ a.Reserved w.UnitType → IsType n i Typ.Unit (advanced i)
     bool_type : {n : ℕ} {i : Input} → ahead i ≡ a.Reserved w.BoolType → IsType n i Typ.Bool (advanced i)
@@ -71,7 +67,7 @@ mutual
         → IsTypeForm n (advanced i) type j
         → IsType (suc n) i type j
 
-  -- The same of a type after its opening parenthesis.
+  -- It begins with the rest of a type after its opening parenthesis.
   pub data IsTypeForm : ℕ → Input → Typ → Input → Type 0 where
     ref_type : {n : ℕ} {i j : Input} {sort : Sort} {content : Typ}
         → ahead i ≡ a.Reserved w.RefType
@@ -93,7 +89,7 @@ mutual
         → ahead k ≡ a.Closing
         → IsTypeForm n i (Typ.Pair first second) (advanced k)
 
--- The same of a parameter, with the number of its name and its type.
+-- It begins with a parameter, which has this name and this type.
 pub data IsParam : ℕ → Input → ℕ → Typ → Input → Type 0 where
   param : {n : ℕ} {i j : Input} {type : Typ}
       → ahead i ≡ a.Opening
@@ -102,14 +98,14 @@ pub data IsParam : ℕ → Input → ℕ → Typ → Input → Type 0 where
       → ahead j ≡ a.Closing
       → IsParam (suc n) i (name_number (advanced i)) type (advanced j)
 
--- The same of all of a function form that stands before its body. Its names are bound in the second input.
+-- It begins with all of a function form before its body. Its names are bound in the second input.
 pub data IsFunctionHead : ℕ → Input → Head → Input → Type 0 where
   fn : {n : ℕ} {i j : Input} {effect : Effect} {x : ℕ} {type : Typ}
       → ahead i ≡ a.Reserved w.Fn
       → IsEffect (advanced i) effect
       → IsParam n (advanced (advanced i)) x type j
       → IsFunctionHead n i (record { effect = effect; own = None; param = x; param_type = type }) (bound x j)
-  -- the parameter is bound within the own name, so it hides it where they are the same
+  -- the parameter is bound within the own name, so it hides it if they are the same
   rec : {n own : ℕ} {i j k : Input} {effect : Effect} {x : ℕ} {type gives : Typ}
       → ahead i ≡ a.Reserved w.Rec
       → IsEffect (advanced i) effect
@@ -119,13 +115,13 @@ pub data IsFunctionHead : ℕ → Input → Head → Input → Type 0 where
       → IsType n j gives k
       → IsFunctionHead n i (record { effect = effect; own = Some (record { name = own; result = gives }); param = x; param_type = type }) (bound x (bound own k))
 
--- the input behind a function form, whose names are no longer bound
+-- the input after a function form, whose names are no longer bound
 abbrev pub outside : Option OwnName → Input → Input
 outside None i = unbound i
 outside (Some own) i = unbound (unbound i)
 
 mutual
-  -- The first input begins with a term, in which at most so many parentheses are open, and goes on as the second.
+  -- The first input begins with a term, in which at most n parentheses are open, and goes on as the second.
   pub data IsTerm : ℕ → Input → Tree → Input → Type 0 where
     int : {n : ℕ} {i : Input} {value : ℤ} → ahead i ≡ a.Number value → IsTerm n i (Tree.Held (Val.Int value)) (advanced (marked i))
     unit : {n : ℕ} {i : Input} → ahead i ≡ a.Reserved w.Unit → IsTerm n i unit_tree (advanced (marked i))
@@ -142,7 +138,7 @@ mutual
         → IsForm n (advanced (marked i)) tree j
         → IsTerm (suc n) i tree j
 
-  -- The same of a form after its opening parenthesis.
+  -- It begins with the rest of a form after its opening parenthesis.
   pub data IsForm : ℕ → Input → Tree → Input → Type 0 where
     function : {n : ℕ} {i j k : Input} {head : Head} {body : Tree}
         → IsFunctionHead n i head j
@@ -209,7 +205,7 @@ mutual
         → ahead j ≡ a.Closing
         → IsForm n i (Tree.Unprotected part) (advanced j)
 
-  -- The same of the parts of a form up to its closing parenthesis.
+  -- It begins with the parts of a form up to its closing parenthesis.
   pub data AreParts : ℕ → Input → List Tree → Input → Type 0 where
     none : {n : ℕ} {i : Input} → ahead i ≡ a.Closing → AreParts n i [] i
     more : {n : ℕ} {i j k : Input} {part : Tree} {others : List Tree}

@@ -1,4 +1,4 @@
--- What is read from, and the steps that every form is read by.
+-- The input of the reading, and the steps that every form is read by.
 use Rattle.std.specs.Prelude.{◌≡◌, ◌≢◌, ℕ, Bool, true, false, List, [], ◌∷◌, ◌++◌, length, take, drop, ◌+◌, ◌-◌, ◌==◌, if◌then◌else◌, Option, Some, None, Result, Ok, Err}
 use Rattle.ame_lex.specs.Bytes.{Text}
 use Rattle.ame_lex.specs.declared.tokens.Kind.{Kind}
@@ -159,7 +159,7 @@ closing_by _ = expected want.Closing
 unfoldable pub closing : Parser (Unit {0})
 closing = peek >>= closing_by
 
--- the opening parenthesis of a parameter, where at most so many parentheses may be open in it
+-- the opening parenthesis of a parameter, if at most n parentheses may be open in it
 abbrev pub opening_by : ℕ → Ahead → Parser (Unit {0})
 opening_by n a.Opening = if n == 0 then (λ i. Err (TooNested (place i))) else advance
 opening_by n _ = expected want.Opening

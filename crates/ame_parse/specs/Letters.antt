@@ -1,4 +1,4 @@
--- Effects, sorts and device numbers, which are told by their position.
+-- Effects, sorts and device numbers, which are recognised by their position.
 use Rattle.std.specs.Prelude.{ℕ, ℤ, pos, negsuc, nat_lt, if◌then◌else◌, Option, Some, None, codes}
 use Rattle.std.specs.Str.{bytes_eq}
 use Rattle.ame_lex.specs.Bytes.{Text}

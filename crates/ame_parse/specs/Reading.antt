@@ -177,7 +177,7 @@ atom_by _ = expected want.Term
 unfoldable pub atom : Parser Tree
 atom = peek >>= atom_by
 
--- a term, where `form` reads one that begins with a parenthesis
+-- a term, if `form` reads one that begins with a parenthesis
 abbrev pub term_by : Parser Tree → Ahead → Parser Tree
 term_by form a.Opening = form
 term_by form _ = atom
@@ -186,12 +186,12 @@ term_by form _ = atom
 abbrev pub term_of : Parser Tree → Parser Tree
 term_of form = mark >> peek >>= term_by form
 
--- a form, where at most so many parentheses may be open in it
+-- a form, if at most n parentheses may be open in it
 unfoldable pub nested : ℕ → Parser Tree
 nested zero = λ i. Err (TooNested (place i))
 nested (suc n) = advance >> compound (term_of (nested n)) (param n) (ty n)
 
--- a term, where at most so many parentheses may be open in it
+-- a term, if at most n parentheses may be open in it
 unfoldable pub term : ℕ → Parser Tree
 term n = term_of (nested n)
 

@@ -56,7 +56,7 @@ simple w.BoolType = advance >> pure Typ.Bool
 simple w.IntType = advance >> pure Typ.Int
 simple _ = expected want.Ty
 
--- a type, where `form` reads one that begins with a parenthesis
+-- a type, if `form` reads one that begins with a parenthesis
 abbrev pub ty_by : Parser Typ → Ahead → Parser Typ
 ty_by form a.Opening = form
 ty_by form (a.Reserved word) = simple word
@@ -65,16 +65,16 @@ ty_by form _ = expected want.Ty
 abbrev pub ty_of : Parser Typ → Parser Typ
 ty_of form = peek >>= ty_by form
 
--- a type with parentheses, where at most so many may be open in it
+-- a type with parentheses, if at most n may be open in it
 unfoldable pub nested : ℕ → Parser Typ
 nested zero = λ i. Err (TooNested (place i))
 nested (suc n) = advance >> compound (ty_of (nested n))
 
--- a type, where at most so many parentheses may be open in it
+-- a type, if at most n parentheses may be open in it
 unfoldable pub ty : ℕ → Parser Typ
 ty n = ty_of (nested n)
 
--- the name and the type of a parameter, where at most so many parentheses may be open in it
+-- the name and the type of a parameter, if at most n parentheses may be open in it
 unfoldable pub param : ℕ → Parser (ℕ × Typ)
 param n = do
   opening n

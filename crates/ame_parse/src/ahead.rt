@@ -1,4 +1,4 @@
-//! What a token is to the reading.
+//! The meaning of a token for the reading.
 
 ghost use Rattle.std.specs.Prelude.{◌≡◌};
 ghost use Rattle.ame_parse.specs.Input as spec;
@@ -6,7 +6,7 @@ ghost use Rattle.ame_parse.specs.Input as spec;
 use crate::words::{Word, word_of};
 use ame_lex::Kind;
 
-/// What comes next.
+/// The next token.
 #[derive(Clone, Copy)]
 pub enum Ahead {
     Opening,
@@ -19,7 +19,7 @@ pub enum Ahead {
     End,
 }
 
-/// What a token of this kind and this spelling is.
+/// Classifies a token by its kind and its spelling.
 pub fn ahead_of(kind: Kind, spelling: &[u8]) -> Ahead
     ensures { result ≡ spec.ahead_of kind spelling.now }
 {

@@ -41,7 +41,7 @@ pub fn sequence(parts: Vec<Term>) -> Term
     Term::Do(parts)
 }
 
-/// `unprotected unit`.
+/// Returns `unprotected unit`.
 pub fn yielding(alloc: Global) -> Result<Term, AllocError>
     ensures { IfOk result (λ t. tree_of t ≡ tree.Tree.Unprotected tree.unit_tree) }
 {

@@ -5,7 +5,7 @@ ghost use Rattle.ame_parse.specs.declared.fault.ParseFault.TheVariants.{NoMemory
 
 use std::alloc::{AllocError, AllocFailed};
 
-/// What must stand where the reading can't go on.
+/// The piece that is expected at a fault.
 #[derive(Clone, Copy, Debug, PartialEq, Eq)]
 pub enum Want {
     Term,

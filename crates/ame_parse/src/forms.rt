@@ -1,4 +1,4 @@
-//! What a word or a symbol begins.
+//! The form that begins with a word or a symbol.
 
 ghost use Rattle.std.specs.Prelude.{◌≡◌};
 ghost use Rattle.ame_parse.specs.Forms as spec;
@@ -7,7 +7,7 @@ use crate::ahead::Ahead;
 use crate::words::Word;
 use ame_term::{Binary, Op, Unary};
 
-/// What the word or the symbol after an opening parenthesis begins.
+/// The form that begins with a word or a symbol after an opening parenthesis.
 #[derive(Clone, Copy)]
 pub enum Opener {
     /// A form that is its word and one part.
@@ -53,27 +53,14 @@ fn opener_of_word(word: Word) -> Option<Opener>
     }
 }
 
-fn op_of(symbol: u8) -> Option<Op>
-    ensures { result ≡ spec.op_of symbol }
-{
-    match symbol {
-        b'+' => Some(Op::Add),
-        b'-' => Some(Op::Sub),
-        b'*' => Some(Op::Mul),
-        b'<' => Some(Op::Less),
-        b'=' => Some(Op::Same),
-        _ => None,
-    }
-}
-
-/// What begins with this after its parenthesis.
+/// Returns the form that begins with this after its parenthesis.
 #[tactic(auto, unfolding(crate::specs::Forms::opener_of))]
 pub fn opener_of(ahead: Ahead) -> Option<Opener>
     ensures { result ≡ spec.opener_of ahead }
 {
     match ahead {
         Ahead::Reserved(word) => opener_of_word(word),
-        Ahead::Symbol(symbol) => op_of(symbol).map(|op| Opener::Two(Binary::Bin(op))),
+        Ahead::Symbol(symbol) => Op::of(symbol).map(|op| Opener::Two(Binary::Bin(op))),
         _ => None,
     }
 }

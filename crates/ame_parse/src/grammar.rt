@@ -18,7 +18,7 @@ use crate::words::Word;
 use ame_term::{Binary, Function, Name, Own, Term, Unary, Value};
 use std::alloc::Global;
 
-/// A name that is bound.
+/// Reads a name that is bound.
 #[tactic(auto, unfolding(crate::specs::Reading::variable))]
 fn variable(alloc: Global, reader: &mut Reader<'_>) -> Result<Term, ParseFault>
     ensures { Reads tree_of (spec.variable reader.old) result reader.new }
@@ -32,7 +32,7 @@ fn variable(alloc: Global, reader: &mut Reader<'_>) -> Result<Term, ParseFault>
     }
 }
 
-/// `yield`, which is two nodes at its place.
+/// Reads `yield`, which is two nodes at its place.
 #[tactic(auto, unfolding(crate::specs::Reading::yielding))]
 fn yielding(alloc: Global, reader: &mut Reader<'_>) -> Result<Term, ParseFault>
     ensures { Reads tree_of (spec.yielding reader.old) result reader.new }
@@ -65,7 +65,7 @@ fn constant(alloc: Global, reader: &mut Reader<'_>, word: Word) -> Result<Term, 
     }
 }
 
-/// A term of one token, which is the next one.
+/// Reads a term of one token, which is the next one.
 fn atom(alloc: Global, reader: &mut Reader<'_>, next: Ahead) -> Result<Term, ParseFault>
     ensures { Reads tree_of (spec.atom_by next reader.old) result reader.new }
 {
@@ -194,7 +194,7 @@ fn binding(alloc: Global, reader: &mut Reader<'_>, depth: usize) -> Result<Term,
     Ok(Term::Let(name, bound, body))
 }
 
-/// The parts up to the closing parenthesis, after those that are there.
+/// Reads the parts up to the closing parenthesis, after those that were read.
 #[cycle(grammar)]
 fn more(
     alloc: Global,
@@ -284,7 +284,7 @@ fn recursive(alloc: Global, reader: &mut Reader<'_>, depth: usize) -> Result<Ter
     Ok(Term::Fun(function))
 }
 
-/// What stands after an opening parenthesis.
+/// Reads the rest of a form after its opening parenthesis.
 #[cycle(grammar)]
 #[tactic(auto, unfolding(crate::specs::Reading::compound))]
 fn compound(alloc: Global, reader: &mut Reader<'_>, depth: usize) -> Result<Term, ParseFault>
@@ -309,7 +309,7 @@ fn compound(alloc: Global, reader: &mut Reader<'_>, depth: usize) -> Result<Term
     }
 }
 
-/// A form, where at most so many parentheses may be open in it.
+/// Reads a form. At most `depth` parentheses may be open in it.
 #[cycle(grammar)]
 fn nested(alloc: Global, reader: &mut Reader<'_>, depth: usize) -> Result<Term, ParseFault>
     ensures { Reads tree_of (spec.nested depth reader.old) result reader.new }
@@ -321,7 +321,7 @@ fn nested(alloc: Global, reader: &mut Reader<'_>, depth: usize) -> Result<Term, 
     compound(alloc, reader, depth - 1)
 }
 
-/// A term, where at most so many parentheses may be open in it.
+/// Reads a term. At most `depth` parentheses may be open in it.
 #[cycle(grammar)]
 #[tactic(auto, unfolding(crate::specs::Reading::term, crate::specs::Reading::atom))]
 fn term(alloc: Global, reader: &mut Reader<'_>, depth: usize) -> Result<Term, ParseFault>

@@ -1,4 +1,4 @@
-//! What holds of the grammar of programs.
+//! Facts about the grammar of programs.
 
 ghost use Rattle.std.specs.Prelude.{◌≡◌, ◌↔◌, ◌++◌, ℕ, List, length, map, Ok, Err};
 ghost use Rattle.ame_lex.specs.declared.tokens.LexFault.{LexFault};
@@ -12,34 +12,34 @@ ghost use Rattle.ame_parse.specs.Text.{reading, Source, ReadingFault};
 
 use ame_lex::{grammar_is_reading, tokens_lie_within};
 
-/// A text spells exactly the program that is read of it.
+/// States that a text spells exactly the program that is read of it.
 pub fn spelled_is_read()
     ensures { (text : List ℕ) (source : Source) → Spells text source ↔ (reading text ≡ Ok source) }
 {
     grammar_is_reading();
 }
 
-/// A text spells at most one program.
+/// States that a text spells at most one program.
 pub fn one_program()
     ensures { (text : List ℕ) (one other : Source) → Spells text one → Spells text other → one ≡ other }
 {
     spelled_is_read();
 }
 
-/// A fault of the bytes comes before all others.
+/// States that a fault of the bytes comes before all others.
 #[tactic(auto, unfolding(crate::specs::Text::reading))]
 pub fn bytes_come_first()
     ensures { (text : List ℕ) (fault : LexFault) → tokens_of text ≡ Err fault → reading text ≡ Err (ReadingFault.Lexical fault) }
 {}
 
-/// The fault that is read of the tokens of a text is the one that the table of what is expected gives it.
+/// States that the fault that is read of a text's tokens is the one that the table of expected pieces gives it.
 pub fn fault_is_expected()
     ensures { (text : List ℕ) (fault : ParseFault) → Faults text fault ↔ (reading text ≡ Err (ReadingFault.Syntactic fault)) }
 {
     grammar_is_reading();
 }
 
-/// A fault stands at a token of the text or at its end, and it is the first: each text whose tokens are spelled alike up to that
+/// States that a fault stands at a token of the text or at its end, and is the first: each text whose tokens are spelled alike up to that
 /// one, and with it, wherever they stand, has the same fault at that token, so none of them is a program.
 pub fn fault_is_first()
     ensures stands { (text : List ℕ) (all : List Seen) (fault : ParseFault) → HasSeenTokens text all → reading text ≡ Err (ReadingFault.Syntactic fault)

@@ -1,4 +1,4 @@
-//! Effects, sorts and device numbers, which are told by their position.
+//! Effects, sorts and device numbers, which are recognised by their position.
 
 ghost use Rattle.std.specs.Prelude.{◌≡◌};
 ghost use Rattle.std.specs.Str.{bytes_eq};
@@ -67,7 +67,7 @@ pub fn sort(reader: &mut Reader<'_>) -> Result<Sort, ParseFault>
     }
 }
 
-/// The sort of a `ref` form, and its number.
+/// Reads the sort of a `ref` form, and its number.
 #[tactic(auto, using(crate::proofs::ReaderLemmas::sort_is_left), unfolding(crate::specs::Letters::numbered_sort, crate::specs::Letters::sort))]
 pub fn numbered_sort(reader: &mut Reader<'_>) -> Result<(Sort, TyNo), ParseFault>
     ensures { Reads (λ x. x) (spec.numbered_sort reader.old) result reader.new }

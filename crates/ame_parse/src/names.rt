@@ -29,7 +29,7 @@ impl Names {
         }
     }
 
-    /// The number of a name, which is new or among those that were given.
+    /// Returns the number of a name. A name that is not among those so far becomes the last one.
     pub fn number(&mut self, alloc: Global, name: &[u8]) -> Result<usize, AllocError>
         ensures number { IfOk result (λ n. n ≡ spec.number_in self.old name.now) }
         ensures names { IfOk result (λ n. self.new ≡ spec.with_name self.old name.now) }

@@ -15,10 +15,10 @@ use ame_lex::{Token, tokens_lie_within};
 use ame_term::{Program, Term};
 use std::alloc::Global;
 
-/// How many parentheses may be open.
+/// The most parentheses that may be open.
 const MAX_OPEN: usize = 200;
 
-/// The program of a text's tokens, in time linear in the tokens but for look-ups of names.
+/// Reads the program of a text's tokens, in time linear in the tokens but for look-ups of names.
 pub fn parse(alloc: Global, text: &[u8], tokens: &[Token]) -> Result<Program, ParseFault>
     requires of_text { tokens_of text.now ≡ Ok tokens.now }
     requires small { length text.now ≤ max_text }
@@ -41,7 +41,7 @@ pub fn parse(alloc: Global, text: &[u8], tokens: &[Token]) -> Result<Program, Pa
     }
 }
 
-/// A term, and nothing after it.
+/// Reads a term, and nothing after it.
 #[tactic(auto, unfolding(crate::specs::Reading::program))]
 fn program(alloc: Global, reader: &mut Reader<'_>) -> Result<Box<Term>, ParseFault>
     ensures { Reads (λ b. tree_of b.value) (spec.program reader.old) result reader.new }

@@ -23,7 +23,7 @@ pub struct Reader<'a> {
     /// The numbers of the names that are bound, the innermost last.
     scope: Vec<u32>,
     places: Vec<u32>,
-    /// How many `ref` forms began.
+    /// The number of `ref` forms that began.
     refs: u32,
 }
 
@@ -69,7 +69,7 @@ impl<'a> Reader<'a> {
         }
     }
 
-    /// The bytes of the next token; none at the end.
+    /// Returns the bytes of the next token; none at the end.
     #[tactic(auto, unfolding(crate::specs::Input::spelling))]
     pub fn spelling(&self) -> &'a [u8]
         ensures { result.now ≡ spec.spelling self.now }
@@ -80,7 +80,7 @@ impl<'a> Reader<'a> {
         }
     }
 
-    /// The place of the next token, or of the end.
+    /// Returns the place of the next token, or of the end.
     #[tactic(auto, unfolding(crate::specs::Input::place))]
     pub fn place(&self) -> u32
         ensures { result ≡ spec.place self.now }
@@ -91,7 +91,7 @@ impl<'a> Reader<'a> {
         }
     }
 
-    /// How many tokens are left.
+    /// Counts the tokens that are left.
     #[tactic(auto, unfolding(crate::specs::Input::tokens_left))]
     pub fn left(&self) -> usize
         ensures { result ≡ spec.tokens_left self.now }
@@ -114,7 +114,7 @@ impl<'a> Reader<'a> {
         }
     }
 
-    /// A node begins at the next token.
+    /// Begins a node at the next token.
     #[tactic(auto, unfolding(crate::specs::Input::marked))]
     pub fn mark(&mut self) -> Result<(), ParseFault>
         ensures { Reads (λ x. x) (spec.mark self.old) result self.new }
@@ -157,7 +157,7 @@ impl<'a> Reader<'a> {
         }
     }
 
-    /// The opening parenthesis of a parameter, where at most so many parentheses may be open in it.
+    /// Reads the opening parenthesis of a parameter, if at most `depth` parentheses may be open in it.
     #[tactic(auto, unfolding(crate::specs::Input::opening))]
     pub fn opening(&mut self, depth: usize) -> Result<(), ParseFault>
         ensures { Reads (λ x. x) (spec.opening depth self.old) result self.new }
@@ -184,7 +184,7 @@ impl<'a> Reader<'a> {
         Ok(Name(number as u32))
     }
 
-    /// A name, by its number.
+    /// Reads a name, and returns its number.
     #[tactic(auto, using(crate::proofs::ReaderLemmas::name_is_left), unfolding(crate::specs::Input::name))]
     pub fn name(&mut self, alloc: Global) -> Result<Name, ParseFault>
         ensures { Reads (λ x. x.0) (spec.name self.old) result self.new }
@@ -210,7 +210,7 @@ impl<'a> Reader<'a> {
         Ok(())
     }
 
-    /// The innermost name is no longer bound.
+    /// Unbinds the innermost name.
     #[tactic(auto, unfolding(crate::specs::Input::unbound))]
     pub fn unbind(&mut self)
         ensures { self.new ≡ spec.unbound self.old }
@@ -231,7 +231,7 @@ impl<'a> Reader<'a> {
         number
     }
 
-    /// The names by their numbers, and the places.
+    /// Returns the names by their numbers, and the places.
     pub fn into_lists(self, alloc: Global) -> Result<(Vec<Vec<u8>>, Vec<u32>), AllocError>
         ensures { IfOk result (λ lists. (map (λ name. name.items) lists.0.items ≡ self.entry.names) × (lists.1.items ≡ self.entry.places)) }
     {

@@ -56,7 +56,7 @@ fn pair(alloc: Global, reader: &mut Reader<'_>, depth: usize) -> Result<Ty, Pars
     Ok(Ty::Pair(first, second))
 }
 
-/// What stands after the opening parenthesis of a type.
+/// Reads the rest of a type after its opening parenthesis.
 #[cycle(types)]
 #[tactic(auto, unfolding(crate::specs::Types::compound))]
 fn compound(alloc: Global, reader: &mut Reader<'_>, depth: usize) -> Result<Ty, ParseFault>
@@ -79,7 +79,7 @@ fn compound(alloc: Global, reader: &mut Reader<'_>, depth: usize) -> Result<Ty, 
     }
 }
 
-/// A type with parentheses, where at most so many may be open in it.
+/// Reads a type with parentheses. At most `depth` may be open in it.
 #[cycle(types)]
 fn nested(alloc: Global, reader: &mut Reader<'_>, depth: usize) -> Result<Ty, ParseFault>
     ensures { Reads typ_of (spec.nested depth reader.old) result reader.new }
@@ -91,7 +91,7 @@ fn nested(alloc: Global, reader: &mut Reader<'_>, depth: usize) -> Result<Ty, Pa
     compound(alloc, reader, depth - 1)
 }
 
-/// A type, where at most so many parentheses may be open in it.
+/// Reads a type. At most `depth` parentheses may be open in it.
 #[cycle(types)]
 #[tactic(auto, unfolding(crate::specs::Types::ty))]
 pub fn ty(alloc: Global, reader: &mut Reader<'_>, depth: usize) -> Result<Ty, ParseFault>
@@ -115,7 +115,7 @@ pub fn ty(alloc: Global, reader: &mut Reader<'_>, depth: usize) -> Result<Ty, Pa
     }
 }
 
-/// A parameter, where at most so many parentheses may be open in it.
+/// Reads a parameter. At most `depth` parentheses may be open in it.
 #[tactic(auto, unfolding(crate::specs::Types::param))]
 pub fn param(alloc: Global, reader: &mut Reader<'_>, depth: usize) -> Result<(Name, Ty), ParseFault>
     ensures { Reads (λ p. (p.0.0, typ_of p.1)) (spec.param depth reader.old) result reader.new }

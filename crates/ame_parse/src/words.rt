@@ -36,7 +36,7 @@ pub enum Word {
     PairType,
 }
 
-/// The reserved word that is spelled so.
+/// Returns the reserved word with this spelling.
 #[tactic(auto, using(crate::proofs::WordLemmas::other_lengths), unfolding(crate::specs::Words::word_of))]
 pub fn word_of(spelling: &[u8]) -> Option<Word>
     ensures { result ≡ spec.word_of spelling.now }

@@ -109,7 +109,7 @@ formed e p rule = record {
   part = λ good first. parts.form_part (p.part good (first_of_first (e.adds).names first)) e.moves rule;
 }
 
--- the same where the closing parenthesis is in the part
+-- the same if the closing parenthesis is in the part
 pub formed_shut : {all : List Text} {n : ℕ} {tree : Tree} {tokens : List Printed} {step : Input → Input} {P : Input → Input → Type 0} {i j : Input} → Again all tokens (Shut step P) i j
     → ((i' j' : Input) → IsLike i i' → P i' j' → ahead j' ≡ a.Closing → IsForm n i' tree (step j')) → Again all (open_token ∷ tokens) (λ i' j'. IsTerm (suc n) i' tree j') i j
 formed_shut p rule = record { adds = p.adds; part = λ good first. parts.shut_part (p.part good first) rule }

@@ -13,6 +13,7 @@ use Rattle.ame_term.specs.declared.types.Sort.TheVariants as sorts
 use Rattle.ame_term.specs.declared.types.Effect.{Effect}
 use Rattle.ame_term.specs.declared.types.Effect.TheVariants as effects
 use Rattle.ame_term.specs.declared.types.Op.{Op}
+use Rattle.ame_term.specs.declared.types.Op.TheVariants as op
 use Rattle.ame_term.specs.declared.types.Unary.{Unary}
 use Rattle.ame_term.specs.declared.types.Binary.{Binary}
 use Rattle.ame_parse.specs.declared.words.Word.{Word}
@@ -174,11 +175,11 @@ sort_read sorts.Unprotected i e = IsSort.unprotected e
 
 pub op_fixed : {byte : ℕ} {op : Op} → IsOp byte op → IsFixed (op_token op) (a.Symbol byte)
 unfolding class_of
-op_fixed IsOp.plus = record { alone = operator_alone 43 refl; is = refl }
-op_fixed IsOp.minus = record { alone = minus_alone 45 refl; is = refl }
-op_fixed IsOp.star = record { alone = operator_alone 42 refl; is = refl }
-op_fixed IsOp.less = record { alone = operator_alone 60 refl; is = refl }
-op_fixed IsOp.equals = record { alone = operator_alone 61 refl; is = refl }
+op_fixed (IsOp.spells op.Add) = record { alone = operator_alone 43 refl; is = refl }
+op_fixed (IsOp.spells op.Sub) = record { alone = minus_alone 45 refl; is = refl }
+op_fixed (IsOp.spells op.Mul) = record { alone = operator_alone 42 refl; is = refl }
+op_fixed (IsOp.spells op.Less) = record { alone = operator_alone 60 refl; is = refl }
+op_fixed (IsOp.spells op.Same) = record { alone = operator_alone 61 refl; is = refl }
 
 -- ---- the words and symbols of forms with one part and with two
 

@@ -1,4 +1,4 @@
--- What the proofs of reading again speak of.
+-- The terms of the proofs that printed text is read again.
 use Rattle.std.proofs.Common.{◌≡◌, ℕ, false, List, ◌++◌, map}
 use Rattle.std.specs.Prelude.{⊤}
 use Rattle.ame_lex.specs.Bytes.{Text, begins, is_word_byte}
@@ -37,7 +37,7 @@ pub record IsFirstOf (names all : List Text) : Type 0 where
   pub more : List Text
   pub split : all ≡ names ++ more
 
--- two inputs with the same names, of which the same are bound, and with as many `ref` forms before them
+-- two inputs with the same names, the same bound ones among them, and as many `ref` forms before them
 pub record IsLike (i i' : Input) : Type 0 where
   pub names : i'.names ≡ i.names
   pub scope : i'.scope ≡ i.scope

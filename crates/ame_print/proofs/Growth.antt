@@ -1,4 +1,4 @@
--- How an input goes on: names are added, the scope comes back, and what is good stays good.
+-- The progress of an input: names are added, the scope comes back, and what is good stays good.
 use Rattle.std.proofs.Common.{◌≡◌, refl, sym, ap, ◌∙◌, ℕ, ◌-◌, Bool, true, false, cond, List, [], ◌∷◌, ◌++◌, length, take, drop, length-append, append_assoc, append-nil, arith}
 use Rattle.std.specs.List.{list_any, AllByRecursion}
 use Rattle.std.specs.Str.{bytes_eq}

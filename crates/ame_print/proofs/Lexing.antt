@@ -13,7 +13,7 @@ use Rattle.ame_parse.specs.Seen.{seen, start_of}
 use Rattle.ame_print.specs.Layout.{Printed, is_open_kind, is_close_kind, gap, layout}
 use Rattle.ame_print.proofs.Canon.{token_of, tokens_of, IsAlone}
 
--- the text behind `before` has tokens, which are these
+-- the text after `before` has tokens, which are these
 pub record Lexed (before : Text) (is_first : Bool) (tokens : List Printed) : Type 0 where
   pub found : List Token
   pub lexes : Lexes (length before) (layout is_first tokens) (Ok found)
@@ -25,7 +25,7 @@ space_is_blank : class_of 32 ≡ Blank
 unfolding class_of
 space_is_blank = refl
 
--- what the space of a gap stands before is lexed behind it
+-- the text after the space of a gap is lexed after it
 behind_gap : (none : Bool) (at : ℕ) (bytes more : Text) (outcome : LexOutcome) → Lexes (at + length {A = ℕ} (cond none [] (32 ∷ []))) (bytes ++ more) outcome
     → Lexes at (cond none [] (32 ∷ []) ++ bytes ++ more) outcome
 behind_gap true at bytes more outcome l = subst (λ k. Lexes k (bytes ++ more) outcome) (add-zero at) l

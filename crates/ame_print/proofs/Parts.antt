@@ -50,7 +50,7 @@ pub moves_marked_twice : (token : Printed) (i k : Input) → IsLike i k → Move
 unfolding advanced marked
 moves_marked_twice token i k same = record { like = λ i' like e. record { names = like.names ∙ sym same.names; scope = like.scope ∙ sym same.scope; refs = like.refs ∙ sym same.refs }; rest = λ i'. refl }
 
--- where the input before the token is like the one after it
+-- if the input before the token is like the one after it
 moves_open : (i : Input) → Moves open_token advanced i i
 unfolding advanced
 moves_open i = record { like = λ i' like e. record { names = like.names; scope = like.scope; refs = like.refs }; rest = λ i'. refl }

@@ -1,4 +1,4 @@
--- What tokens add to a text.
+-- The bytes that tokens add to a text.
 use Rattle.std.proofs.Common.{◌≡◌, refl, ap, ◌∙◌, sym, List, [], ◌∷◌, ◌++◌, append_assoc, append-nil}
 use Rattle.ame_print.specs.Layout.{Printed, layout, gap, is_open_kind}
 use Rattle.ame_print.specs.Printer.{Page, with_token, with_tokens}
@@ -8,7 +8,7 @@ pub append : (page : Page) (first second : List Printed) → with_tokens page (f
 append page [] second = refl
 append page (token ∷ rest) second = append (with_token page token) rest second
 
--- the tokens are laid out behind the text
+-- the tokens are laid out after the text
 pub text_of_page : (page : Page) (tokens : List Printed) → (with_tokens page tokens).text ≡ page.text ++ layout page.is_first tokens
 text_of_page page [] = sym (append-nil page.text)
 text_of_page page (token ∷ rest) =

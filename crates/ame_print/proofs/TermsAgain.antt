@@ -24,7 +24,7 @@ use Rattle.ame_print.proofs.Parts.{Begun, Both, Shut, moves_after, moves_marked,
 use Rattle.ame_print.proofs.TypesAgain.{type_again, param_again}
 use Rattle.ame_print.proofs.Again.{Again, Adds, adds, over, step, name_step, joined, inner, behind_ref, mapped, regrouped, before, ends, ends_unbound, formed, formed_shut}
 
--- the tokens are read as the tree, with so many parentheses open
+-- the tokens are read as the tree, with this number of parentheses open
 abbrev IsAgain : List Text → List Printed → ℕ → Input → Tree → Input → Type 0
 IsAgain all tokens n i tree j = Again all tokens (λ i' j'. IsTerm n i' tree j') i j
 

@@ -1,4 +1,4 @@
--- What is printed is read again.
+-- Printed text is read again.
 use Rattle.std.specs.Prelude.{◌≡◌, Ok}
 use Rattle.ame_lex.specs.Bytes.{Text}
 use Rattle.ame_parse.specs.Text.{Source, reading}

@@ -44,7 +44,7 @@ is_close_kind _ = false
 abbrev pub gap : Bool → Kind → Text
 gap is_first next = if is_first || is_close_kind next then [] else 32 ∷ []
 
--- the bytes of tokens, where nothing or an opening parenthesis stands before them or not
+-- the bytes of tokens, by whether they follow nothing or an opening parenthesis, or anything else
 abbrev pub layout : Bool → List Printed → Text
 layout is_first [] = []
 layout is_first (token ∷ rest) = gap is_first token.kind ++ token.bytes ++ layout (is_open_kind token.kind) rest

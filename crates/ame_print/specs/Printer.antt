@@ -1,4 +1,4 @@
--- What was printed so far, and what more tokens make of it.
+-- The text printed so far, and the text that more tokens make of it.
 use Rattle.std.specs.Prelude.{ℕ, Bool, true, List, [], ◌∷◌, ◌++◌, map}
 use Rattle.std.specs.Global.{Vec}
 use Rattle.ame_lex.specs.Bytes.{Text}

@@ -6,11 +6,11 @@ use Rattle.ame_term.specs.declared.types.Sort.TheVariants as sorts
 use Rattle.ame_term.specs.declared.types.Effect.{Effect}
 use Rattle.ame_term.specs.declared.types.Effect.TheVariants as effects
 use Rattle.ame_term.specs.declared.types.Op.{Op}
-use Rattle.ame_term.specs.declared.types.Op.TheVariants as op
 use Rattle.ame_term.specs.declared.types.Unary.{Unary}
 use Rattle.ame_term.specs.declared.types.Unary.TheVariants as unary
 use Rattle.ame_term.specs.declared.types.Binary.{Binary}
 use Rattle.ame_term.specs.declared.types.Binary.TheVariants as binary
+use Rattle.ame_term.specs.Operators.{operator}
 use Rattle.ame_term.specs.Tree.{Typ, Head, Val, Tree, Trees}
 use Rattle.ame_print.specs.Layout.{Printed, open_token, close_token, word, number_token, symbol, layout}
 
@@ -31,11 +31,7 @@ effect_token effects.Either = word (codes "a")
 
 -- an operator by its symbol
 abbrev pub op_token : Op → Printed
-op_token op.Add = symbol 43
-op_token op.Sub = symbol 45
-op_token op.Mul = symbol 42
-op_token op.Less = symbol 60
-op_token op.Same = symbol 61
+op_token op = symbol (operator op).symbol
 
 -- what stands before the part of a form with one part
 abbrev pub unary_tokens : Unary → List Printed

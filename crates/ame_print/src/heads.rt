@@ -1,4 +1,4 @@
-//! What stands before the parts of a form: words, operators, names, sorts and effects.
+//! The beginnings of forms before their parts: words, operators, names, sorts and effects.
 
 ghost use Rattle.std.specs.Prelude.{◌≡◌, OnOk};
 ghost use Rattle.ame_print.specs.Layout.{open_token, word};
@@ -27,7 +27,7 @@ pub fn effect(page: &mut TokenPage, effect: Effect) -> Result<(), NoMemory>
     }
 }
 
-/// The parenthesis and the word of a function form, and its effect.
+/// Prints the parenthesis and the word of a function form, and its effect.
 pub fn begin_function(page: &mut TokenPage, head: &[u8], under: Effect) -> Result<(), NoMemory>
     ensures { OnOk result (page.new ≡ with_token (with_token (with_token page.old open_token) (word head.now)) (effect_token under)) }
 {
@@ -38,16 +38,10 @@ pub fn begin_function(page: &mut TokenPage, head: &[u8], under: Effect) -> Resul
 pub fn op(page: &mut TokenPage, op: Op) -> Result<(), NoMemory>
     ensures { OnOk result (page.new ≡ with_token page.old (op_token op)) }
 {
-    match op {
-        Op::Add => page.symbol(b'+'),
-        Op::Sub => page.symbol(b'-'),
-        Op::Mul => page.symbol(b'*'),
-        Op::Less => page.symbol(b'<'),
-        Op::Same => page.symbol(b'='),
-    }
+    page.symbol(op.symbol())
 }
 
-/// The parenthesis and the word of a form with one part, and the sort or the number before the part.
+/// Prints the parenthesis and the word of a form with one part, and the sort or the number before the part.
 pub fn begin_one(page: &mut TokenPage, op: Unary) -> Result<(), NoMemory>
     ensures { OnOk result (page.new ≡ with_tokens (with_token page.old open_token) (unary_tokens op)) }
 {
@@ -70,7 +64,7 @@ pub fn begin_one(page: &mut TokenPage, op: Unary) -> Result<(), NoMemory>
     }
 }
 
-/// The parenthesis and the word or the symbol of a form with two parts.
+/// Prints the parenthesis and the word or the symbol of a form with two parts.
 pub fn begin_two(page: &mut TokenPage, which: Binary) -> Result<(), NoMemory>
     ensures { OnOk result (page.new ≡ with_token (with_token page.old open_token) (binary_token which)) }
 {
@@ -95,7 +89,7 @@ pub fn truth(page: &mut TokenPage, truth: bool) -> Result<(), NoMemory>
     }
 }
 
-/// A name by its spelling, where it has one.
+/// Prints a name by its spelling, if it has one.
 pub fn name(page: &mut TokenPage, names: &[Vec<u8>], x: Name) -> Result<(), NoMemory>
     ensures { OnOk result (page.new ≡ with_token page.old (name_token (spelling_of names.now) x.0)) }
 {

@@ -14,7 +14,7 @@ use crate::types::ty;
 use ame_term::{NoMemory, Program, Term, Ty};
 use std::alloc::Global;
 
-/// The canonical text of a type.
+/// Returns the canonical text of a type.
 #[tactic(auto, using(crate::proofs::PrinterLemmas::text_of_page))]
 pub fn print_ty(alloc: Global, shown: &Ty) -> Result<Vec<u8>, NoMemory>
     ensures { IfOk result (λ text. text.items ≡ type_text (typ_of shown.now)) }
@@ -24,7 +24,7 @@ pub fn print_ty(alloc: Global, shown: &Ty) -> Result<Vec<u8>, NoMemory>
     Ok(page.into_text())
 }
 
-/// The canonical text of a term, with these spellings for its names. Its time is linear in the text.
+/// Returns the canonical text of a term, with these spellings for its names. Its time is linear in the text.
 #[tactic(auto, using(crate::proofs::PrinterLemmas::text_of_page))]
 pub fn print_term(alloc: Global, names: &[Vec<u8>], shown: &Term) -> Result<Vec<u8>, NoMemory>
     ensures { IfOk result (λ text. text.items ≡ term_text (spelling_of names.now) (tree_of shown.now)) }
@@ -34,7 +34,7 @@ pub fn print_term(alloc: Global, names: &[Vec<u8>], shown: &Term) -> Result<Vec<
     Ok(page.into_text())
 }
 
-/// The canonical text of a program. If the program was read from a text, then the canonical text is read as a
+/// Returns the canonical text of a program. If the program was read from a text, then the canonical text is read as a
 /// program with the same names and the same term.
 pub fn print_program(alloc: Global, program: &Program) -> Result<Vec<u8>, NoMemory>
     ensures exact { IfOk result (λ text. text.items ≡ source_text (source_of program.now)) }

@@ -12,7 +12,7 @@ use crate::token_page::TokenPage;
 use crate::types::ty;
 use ame_term::{Binary, Function, Name, NoMemory, Term, Unary, Value};
 
-/// Whether a term is the value unit.
+/// Returns whether a term is the value unit.
 fn is_unit(term: &Term) -> bool
     ensures { result ≡ is_unit_tree (tree_of term.now) }
 {
@@ -155,7 +155,7 @@ fn choice(
     page.close()
 }
 
-/// Prints an `unprotected` form, as `yield` where its part is unit.
+/// Prints an `unprotected` form, as `yield` if its part is unit.
 #[cycle(print)]
 #[tactic(auto, using(crate::proofs::PrinterLemmas::append), unfolding(crate::specs::Tokens::term_tokens))]
 fn unprotected(page: &mut TokenPage, names: &[Vec<u8>], part: &Term) -> Result<(), NoMemory>

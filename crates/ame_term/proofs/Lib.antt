@@ -1,3 +1,4 @@
 pub mod TreesLemmas
 pub mod RedexLemmas
 pub mod PartsLemmas
+pub mod OperatorLemmas

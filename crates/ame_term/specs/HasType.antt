@@ -3,11 +3,12 @@
 use Rattle.std.specs.Prelude.{◌≡◌, ℕ, ◌<◌, Bool, ◌⊎◌, ℤ, Option, Some, None}
 use Rattle.ame_term.specs.Tree.{Typ, OwnName, Head, Val, Tree, Trees}
 use Rattle.ame_term.specs.Scope.{Scope, unscoped, bind}
+use Rattle.ame_term.specs.Operators.{operator}
 use Rattle.ame_term.specs.Signature.{Signature, MayStore}
 use Rattle.ame_term.specs.declared.types.Sort.{Sort}
 use Rattle.ame_term.specs.declared.types.Effect.{Effect}
 use Rattle.ame_term.specs.declared.types.TyNo.{TyNo}
-use Rattle.ame_term.specs.declared.types.Op.TheVariants as op
+use Rattle.ame_term.specs.declared.types.Op.{Op}
 use Rattle.ame_term.specs.declared.types.Unary.{Unary}
 use Rattle.ame_term.specs.declared.types.Unary.TheVariants as unary
 use Rattle.ame_term.specs.declared.types.Binary.{Binary}
@@ -33,11 +34,7 @@ pub data HasUnary (signature : Signature) : Unary → Effect → Typ → Typ →
 -- a form with two parts: their types and the form's
 pub data HasBinary : Binary → Effect → Typ → Typ → Typ → Type 0 where
   app : {q r : Effect} {t u : Typ} → (r ≡ q) ⊎ (r ≡ Effect.Either) → HasBinary binary.App q (Typ.Fun r t u) t u
-  sum : {q : Effect} → HasBinary (binary.Bin op.Add) q Typ.Int Typ.Int Typ.Int
-  difference : {q : Effect} → HasBinary (binary.Bin op.Sub) q Typ.Int Typ.Int Typ.Int
-  product : {q : Effect} → HasBinary (binary.Bin op.Mul) q Typ.Int Typ.Int Typ.Int
-  less : {q : Effect} → HasBinary (binary.Bin op.Less) q Typ.Int Typ.Int Typ.Bool
-  equal : {q : Effect} → HasBinary (binary.Bin op.Same) q Typ.Int Typ.Int Typ.Bool
+  operation : {q : Effect} (op : Op) → HasBinary (binary.Bin op) q Typ.Int Typ.Int (operator op).gives
   set : {q : Effect} {s : Sort} {t : Typ} → code_of s ≡ q → HasBinary binary.Set q (Typ.Ref s t) t Typ.Unit
   pair : {q : Effect} {t u : Typ} → HasBinary binary.Pair q t u (Typ.Pair t u)
 
@@ -67,7 +64,7 @@ module _ (signature : Signature) (cells : ℕ → Option (Sort × Typ)) where
       two : {g : Scope} {q : Effect} {op : Binary} {e f : Tree} {t u w : Typ} →
           HasBinary op q t u w → HasType g q e t → HasType g q f u → HasType g q (Tree.Two op e f) w
 
-    -- parts of which each but the last is Unit, and the last has a type
+    -- each part but the last is Unit, and the last has a type
     pub data HasLast : Scope → Effect → Trees → Typ → Type 0 where
       last : {g : Scope} {q : Effect} {e : Tree} {t : Typ} → HasType g q e t → HasLast g q (Trees.More e Trees.None) t
       more : {g : Scope} {q : Effect} {e f : Tree} {rest : Trees} {t : Typ} →

@@ -1,5 +1,6 @@
 pub mod Tree
 pub mod View
+pub mod Operators
 pub mod Forms
 pub mod Redex
 pub mod Frame

@@ -1,13 +1,13 @@
--- What a term is typed for.
+-- The surroundings for which a term is typed.
 use Rattle.std.specs.Prelude.{◌≡◌, ℕ, List, Option, Some, None, slice_get}
 use Rattle.ame_term.specs.Tree.{Typ}
 
--- how many devices there are, and, where it is told, of which types the values are that `ref` forms store, by their numbers
+-- the number of devices, and, if known, the types of the values that `ref` forms store, by the forms' numbers
 pub record Signature : Type 0 where
   pub devices : ℕ
   pub refs : Option (List Typ)
 
--- nothing is told of `ref` forms
+-- nothing is known of `ref` forms
 abbrev pub unlisted : ℕ → Signature
 unlisted devices = record { devices = devices; refs = None }
 

@@ -1,4 +1,4 @@
--- What a program keeps of its term has one proof at most.
+-- The properties of a program's term have one proof at most.
 use Rattle.std.specs.Prelude.{ℕ, List, [], ◌∷◌, true}
 use Rattle.std.specs.Coded.{×_prop, Unit-prop}
 use mathlib.Core.HLevel.{×₃_prop, ⊥_prop}

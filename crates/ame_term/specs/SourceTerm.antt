@@ -1,4 +1,4 @@
--- What reading a text ensures of its term.
+-- The properties that reading a text ensures of its term.
 use Rattle.std.specs.Prelude.{ℕ, ◌+◌, ◌==◌, Bool, false, ◌||◌, IsTrue, List, [], ◌∷◌, Option, Some, None}
 use Rattle.ame_term.specs.Tree.{OwnName, Val, Tree, Trees}
 

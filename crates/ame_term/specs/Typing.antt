@@ -3,6 +3,7 @@
 -- 2008); the effect that fits both, peeks, pairs and the order of the tests are ours.
 use Rattle.std.specs.Prelude.{◌≡◌, ℕ, ◌+◌, Bool, true, false, ◌&&◌, List, [], ◌∷◌, ◌++◌, Option, Some, None, Ok, Err, slice_index, nat_lt}
 use Rattle.ame_term.specs.Tree.{Typ, OwnName, Val, Tree, Trees}
+use Rattle.ame_term.specs.Operators.{operator}
 use Rattle.ame_term.specs.Scope.{Scope, unscoped, bind, within}
 use Rattle.ame_term.specs.SourceTerm.{nodes}
 use Rattle.ame_term.specs.Shown.{Shown, TypeOutcome, type_mismatch, no_function, wrong_effect, wrong_sort, no_reference, misplaced_block, misplaced_unprotected, no_device, not_unit, no_pair}
@@ -57,7 +58,7 @@ abbrev pub then_ : TypeOutcome → (Typ → TypeOutcome) → TypeOutcome
 then_ (Ok t) rest = rest t
 then_ (Err fault) rest = Err fault
 
--- the rest, if the test holds; else a fault
+-- the rest, if the test holds; otherwise a fault
 abbrev pub need : Bool → TypeOutcome → TypeOutcome → TypeOutcome
 need true fault rest = rest
 need false fault rest = fault
@@ -74,7 +75,7 @@ want_unit place found rest = need (same_type found Typ.Unit) (breaks not_unit pl
 abbrev pub want_effect : ℕ → ℕ → Effect → Effect → TypeOutcome → TypeOutcome
 want_effect rule place q wanted rest = need (same_effect q wanted) (breaks rule place (Shown.Effect q) (Shown.Effect wanted)) rest
 
--- The rows. Each takes the place of the form, `at`, and of its parts, the ambient effect `q` where it
+-- The rows. Each takes the place of the form, `at`, and of its parts, the ambient effect `q` if it
 -- is tested, and the outcomes of the parts.
 
 abbrev pub function_row : Option OwnName → Effect → Typ → ℕ → TypeOutcome → TypeOutcome
@@ -93,7 +94,7 @@ abbrev pub app_row : ℕ → ℕ → ℕ → Effect → TypeOutcome → TypeOutc
 app_row at function_at argument_at q function argument =
     then_ function (λ t. call_row at function_at argument_at q t argument)
 
--- a part of a `do` form before the others, of which there may be none
+-- a part of a `do` form before the others, if there are any
 abbrev pub part_row : Trees → ℕ → TypeOutcome → TypeOutcome → TypeOutcome
 part_row Trees.None at part others = part
 part_row (Trees.More _ _) at part others = then_ part (λ t. want_unit at t others)
@@ -105,11 +106,7 @@ if_row test_at else_at test then_part else_part =
 
 -- what an operator gives
 abbrev pub op_type : Op → Typ
-op_type Op.Add = Typ.Int
-op_type Op.Sub = Typ.Int
-op_type Op.Mul = Typ.Int
-op_type Op.Less = Typ.Bool
-op_type Op.Same = Typ.Bool
+op_type op = (operator op).gives
 
 abbrev pub bin_row : Op → ℕ → ℕ → TypeOutcome → TypeOutcome → TypeOutcome
 bin_row op left_at right_at left right =
@@ -189,7 +186,7 @@ first_row part_at part = then_ part (λ t. first_of part_at t)
 abbrev pub second_row : ℕ → TypeOutcome → TypeOutcome
 second_row part_at part = then_ part (λ t. second_of part_at t)
 
--- a form with one part, on so many devices
+-- a form with one part, if there are this many devices
 abbrev pub unary_row : ℕ → Unary → ℕ → ℕ → Effect → TypeOutcome → TypeOutcome
 unary_row devices unary.Not at part_at q part = not_row part_at part
 unary_row devices (unary.Ref sort number) at part_at q part = ref_row sort part
@@ -208,7 +205,7 @@ binary_row (binary.Bin op) at left_at right_at q left right = bin_row op left_at
 binary_row binary.Set at left_at right_at q left right = set_row at left_at right_at q left right
 binary_row binary.Pair at left_at right_at q left right = pairing_row left right
 
--- What no program text has: a name that isn't bound, a location without a cell, a `do` without parts.
+-- Terms that no program text has: a name that isn't bound, a location without a cell, a `do` without parts.
 abbrev pub stray : ℕ → TypeOutcome
 stray at = breaks 0 at Shown.Nothing Shown.Nothing
 
@@ -305,7 +302,7 @@ module _ (devices : ℕ) (cells : ℕ → Option (Sort × Typ)) where
 abbrev pub no_cells : ℕ → Option (Sort × Typ)
 no_cells l = None
 
--- Whether a program is Unit under protected: Unit, or the first fault. Its nodes have these places.
+-- The verdict on a program under protected: Unit, or the first fault. Its nodes have these places.
 abbrev pub typing : ℕ → List ℕ → Tree → TypeOutcome
 typing devices places term =
     program_row (slice_index places 0) (typed devices no_cells (slice_index places) unscoped Effect.Protected 0 term)

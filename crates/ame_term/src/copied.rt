@@ -1,4 +1,4 @@
-//! What can be copied where a clone may lack memory.
+//! Values that can be copied although a clone may run out of memory.
 
 ghost use Rattle.std.specs.Prelude.{◌≡◌, IfOk, OnOk, refl};
 ghost use Rattle.std.proofs.Common.{sym, ◌∙◌};
@@ -9,15 +9,15 @@ use crate::term::{Term, Value};
 use crate::types::Ty;
 use std::alloc::Global;
 
-/// A value that can be copied. Two values are the same where they stand for equal plain data.
+/// A value that can be copied. Two values are the same if they stand for equal plain data.
 pub trait Copied: Sized {
     ghost same: { Self → Self → Type 0 };
 
-    /// A value that is the same.
+    /// Returns a value that is the same.
     fn copy(&self, alloc: Global) -> Result<Self, NoMemory>
         ensures { IfOk result (λ c. same self.now c) };
 
-    /// Becomes the same as another value, in the memory that it has where it can. After `NoMemory` it may be any value.
+    /// Makes this value the same as another, in the memory that it has if it can. After `NoMemory` it may be any value.
     fn copy_from(&mut self, alloc: Global, source: &Self) -> Result<(), NoMemory>
     where
         Self: Drop,

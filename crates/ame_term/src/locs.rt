@@ -20,14 +20,14 @@ impl Model for Locs {
 }
 
 impl Locs {
-    /// The locations of a vector, whose memory they keep.
+    /// Returns the locations of a vector, whose memory they keep.
     pub fn from_vec(items: Vec<Loc>) -> Locs
         ensures { result ≡ map (λ l. l.0) items.items }
     {
         Locs { items }
     }
 
-    /// The locations, in order.
+    /// Returns the locations, in order.
     pub fn as_slice(&self) -> &[Loc]
         ensures { self.now ≡ map (λ l. l.0) result.now }
     {

@@ -1,4 +1,4 @@
-//! Want of memory.
+//! The error of an allocation that failed.
 
 ghost use Rattle.std.specs.Prelude.{◌≡◌, ◌∷◌, ◌++◌, [], IfOk, OnOk, OnErr};
 
@@ -24,7 +24,7 @@ impl<T: Drop> From<AllocFailed<T>> for NoMemory {
     }
 }
 
-/// The value in a box.
+/// Returns the value in a box.
 #[inline]
 pub fn boxed<T: Drop>(alloc: Global, value: T) -> Result<Box<T>, NoMemory>
     ensures { IfOk result (λ b. b.value ≡ value) }
@@ -33,7 +33,7 @@ pub fn boxed<T: Drop>(alloc: Global, value: T) -> Result<Box<T>, NoMemory>
     Ok(boxed)
 }
 
-/// One more item at the end of a vector; an item that found no place is dropped.
+/// Appends an item to a vector. Drops the item if there is no memory for it.
 #[inline]
 pub fn push<T: Drop>(items: &mut Vec<T>, item: T) -> Result<(), NoMemory>
     ensures ok { OnOk result (items.new.items ≡ items.old.items ++ item ∷ []) }

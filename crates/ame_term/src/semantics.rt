@@ -2,7 +2,7 @@
 
 use crate::types::Loc;
 
-/// What a reduction does. `Alloc` names the fresh location and `Device` the answer.
+/// The kind of a reduction. `Alloc` names the fresh location and `Device` the answer.
 #[derive(Clone, Copy, PartialEq, Eq, Debug)]
 pub enum StepKind {
     Local,

@@ -1,6 +1,6 @@
 //! Types, effects, sorts, and the numbers that stand for names, locations and types.
 
-/// Whether a reference belongs to protected or to unprotected code.
+/// The code to which a reference belongs: protected or unprotected.
 #[derive(Clone, Copy, PartialEq, Eq, Debug)]
 pub enum Sort {
     Protected,
@@ -48,7 +48,7 @@ pub enum Op {
     Same,
 }
 
-/// A form with one part, which is evaluated where the form stands.
+/// A form with one part, which is evaluated in its place.
 #[derive(Clone, Copy, PartialEq, Eq, Debug)]
 pub enum Unary {
     Not,

@@ -3,3 +3,4 @@ pub mod SharedLemmas
 pub mod UnaryLemmas
 pub mod Parts
 pub mod Faults
+pub mod SizeLemmas

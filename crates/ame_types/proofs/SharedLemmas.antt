@@ -30,7 +30,7 @@ appended (y ∷ xs) ys (suc n) x h = appended xs ys n x h
 pub unchanged : (old new : List Key) → new ≡ old → Lengthens old new
 unchanged old new e = record { stays = λ n key h. rw e h }
 
--- a key that is inserted goes behind the others
+-- a key that is inserted goes after the others
 pub inserted : (test : Key → Bool) (old new : List Key) (key : Key) → new ≡ cond (list_any test old) old (old ++ key ∷ []) → Lengthens old new
 inserted test old new key e = by (list_any test old) e
   where

@@ -7,7 +7,7 @@ use Rattle.ame_term.specs.declared.types.Unary.{Unary}
 use Rattle.ame_term.specs.declared.types.Unary.TheVariants as unary
 use Rattle.ame_types.specs.Unary.{ref_room, filled}
 
--- the item behind a front is changed
+-- the item after a prefix is changed
 set-behind : {X : Type 0} (front back : List X) (x y : X) → set ((front ++ x ∷ []) ++ back) (length front) y ≡ front ++ (y ∷ back)
 set-behind [] back x y = refl
 set-behind (z ∷ front) back x y = ap (λ zs. z ∷ zs) (set-behind front back x y)

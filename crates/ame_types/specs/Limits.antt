@@ -1,4 +1,4 @@
--- How many devices there may be.
+-- The most devices that there may be.
 use Rattle.std.specs.Prelude.{ℕ}
 
 abbrev pub max_devices : ℕ

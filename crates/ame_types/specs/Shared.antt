@@ -19,7 +19,7 @@ shared_type (shared.Ref' n sort _ content) = Typ.Ref sort (shared_type content)
 shared_type (shared.Fun' n effect _ param _ result) = Typ.Fun effect (shared_type param) (shared_type result)
 shared_type (shared.Pair' n _ first _ second) = Typ.Pair (shared_type first) (shared_type second)
 
--- what tells it apart
+-- the mark that sets it apart
 abbrev pub mark_of : shared.Shared → Mark
 mark_of shared.Unit = mark.Unit
 mark_of shared.Bool = mark.Bool
@@ -28,7 +28,7 @@ mark_of (shared.Ref' n sort _ content) = mark.Numbered n
 mark_of (shared.Fun' n effect _ param _ result) = mark.Numbered n
 mark_of (shared.Pair' n _ first _ second) = mark.Numbered n
 
--- of which code a reference or a function is
+-- the code that a reference or a function belongs to
 abbrev pub sort_zone : Sort → Zone
 sort_zone Sort.Protected = Zone.Protected
 sort_zone Sort.Unprotected = Zone.Unprotected

@@ -6,7 +6,7 @@ use Rattle.ame_term.specs.declared.types.Effect.{Effect}
 use Rattle.ame_term.specs.declared.types.Unary.{Unary}
 use Rattle.ame_term.specs.declared.types.Unary.TheVariants as unary
 
--- whether a form may stand under an effect, on so many devices, whatever its part is
+-- whether a form may stand under an effect, on this number of devices, whatever its part is
 abbrev pub stands_under : ℕ → Unary → Effect → Bool
 stands_under devices unary.Peek q = same_effect q Effect.Unprotected
 stands_under devices unary.Block q = same_effect q Effect.Protected

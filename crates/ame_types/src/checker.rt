@@ -8,11 +8,12 @@ ghost use Rattle.ame_types.specs.Scope.{AreListed};
 ghost use Rattle.ame_types.specs.Checks.{Checks, IsCheckable, KeepsListed, function_tree};
 
 use crate::expect::{agree, applied, constant, expect, op_ty, require, under, unfit, written};
-use crate::fault::TypesFail;
+use crate::fault::CheckFail;
 use crate::rule;
 use crate::scope::Scope;
 use crate::seen::{Checker, Seen};
 use crate::shared::Shared;
+use crate::site::{Callee, Form, Part, Site};
 use crate::unary::{fill, reserve, stand, unary_ty};
 use ame_term::{Effect, Function, Name, Op, Own, Term, Unary, Value};
 
@@ -23,53 +24,51 @@ impl Checker<'_> {
     pub fn term<'t>(
         &self,
         seen: &mut Seen<'t>,
-        scope: &Scope<'_, 't>,
-        q: Effect,
+        site: Site<'_, 't>,
         term: &Term,
-    ) -> Result<Shared<'t>, TypesFail>
-        requires source { IsCheckable self.now scope.now seen.old (tree_of term.now) }
-        requires listed { AreListed seen.old.types.keys.keys scope.now }
-        ensures ty { Checks self.now scope.now q seen.old seen.new (tree_of term.now) result }
-        ensures listed { KeepsListed scope.now seen.new result }
+    ) -> Result<Shared<'t>, CheckFail<'t>>
+        requires source { IsCheckable self.now site.scope.now seen.old (tree_of term.now) }
+        requires listed { AreListed seen.old.types.keys.keys site.scope.now }
+        ensures ty { Checks self.now site.entry seen.old seen.new (tree_of term.now) result }
+        ensures listed { KeepsListed site.entry.scope.now seen.new result }
     {
         match term {
-            Term::Held(value) => self.held(seen, scope, q, value),
-            Term::Var(name) => self.name(seen, scope, q, *name),
-            Term::Fun(function) => self.function(seen, scope, q, function),
-            Term::App(function, argument) => self.app(seen, scope, q, function, argument),
-            Term::Let(name, bound, body) => self.binding(seen, scope, q, *name, bound, body),
-            Term::Do(parts) => self.sequence(seen, scope, q, parts),
-            Term::If(test, then, other) => self.choice(seen, scope, q, test, then, other),
-            Term::Bin(op, left, right) => self.operation(seen, scope, q, *op, left, right),
-            Term::Not(part) => self.one(seen, scope, q, Unary::Not, part),
+            Term::Held(value) => self.held(seen, site, value),
+            Term::Var(name) => self.name(seen, site, *name),
+            Term::Fun(function) => self.function(seen, site, function),
+            Term::App(function, argument) => self.app(seen, site, function, argument),
+            Term::Let(name, bound, body) => self.binding(seen, site, *name, bound, body),
+            Term::Do(parts) => self.sequence(seen, site, parts),
+            Term::If(test, then, other) => self.choice(seen, site, test, then, other),
+            Term::Bin(op, left, right) => self.operation(seen, site, *op, left, right),
+            Term::Not(part) => self.one(seen, site, Unary::Not, part),
             Term::Ref(sort, number, part) => {
-                self.one(seen, scope, q, Unary::Ref(*sort, *number), part)
+                self.one(seen, site, Unary::Ref(*sort, *number), part)
             }
-            Term::Get(part) => self.one(seen, scope, q, Unary::Get, part),
-            Term::Peek(part) => self.one(seen, scope, q, Unary::Peek, part),
-            Term::Set(cell, content) => self.set(seen, scope, q, cell, content),
-            Term::Async(body) => self.spawn(seen, scope, q, body),
-            Term::Block(part) => self.one(seen, scope, q, Unary::Block, part),
-            Term::Unprotected(part) => self.unprotected(seen, scope, q, part),
-            Term::Print(part) => self.one(seen, scope, q, Unary::Print, part),
-            Term::Call(device, part) => self.one(seen, scope, q, Unary::Call(*device), part),
-            Term::Pair(first, second) => self.pair(seen, scope, q, first, second),
-            Term::First(part) => self.one(seen, scope, q, Unary::First, part),
-            Term::Second(part) => self.one(seen, scope, q, Unary::Second, part),
+            Term::Get(part) => self.one(seen, site, Unary::Get, part),
+            Term::Peek(part) => self.one(seen, site, Unary::Peek, part),
+            Term::Set(cell, content) => self.set(seen, site, cell, content),
+            Term::Async(body) => self.spawn(seen, site, body),
+            Term::Block(part) => self.one(seen, site, Unary::Block, part),
+            Term::Unprotected(part) => self.unprotected(seen, site, part),
+            Term::Print(part) => self.one(seen, site, Unary::Print, part),
+            Term::Call(device, part) => self.one(seen, site, Unary::Call(*device), part),
+            Term::Pair(first, second) => self.pair(seen, site, first, second),
+            Term::First(part) => self.one(seen, site, Unary::First, part),
+            Term::Second(part) => self.one(seen, site, Unary::Second, part),
         }
     }
 
     fn held<'t>(
         &self,
         seen: &mut Seen<'t>,
-        scope: &Scope<'_, 't>,
-        q: Effect,
+        site: Site<'_, 't>,
         value: &Value,
-    ) -> Result<Shared<'t>, TypesFail>
-        requires source { IsCheckable self.now scope.now seen.old (Tree.Held (val_of value.now)) }
-        requires listed { AreListed seen.old.types.keys.keys scope.now }
-        ensures ty { Checks self.now scope.now q seen.old seen.new (Tree.Held (val_of value.now)) result }
-        ensures listed { KeepsListed scope.now seen.new result }
+    ) -> Result<Shared<'t>, CheckFail<'t>>
+        requires source { IsCheckable self.now site.scope.now seen.old (Tree.Held (val_of value.now)) }
+        requires listed { AreListed seen.old.types.keys.keys site.scope.now }
+        ensures ty { Checks self.now site.entry seen.old seen.new (Tree.Held (val_of value.now)) result }
+        ensures listed { KeepsListed site.entry.scope.now seen.new result }
     {
         seen.next += 1;
         Ok(constant(value))
@@ -78,35 +77,33 @@ impl Checker<'_> {
     fn name<'t>(
         &self,
         seen: &mut Seen<'t>,
-        scope: &Scope<'_, 't>,
-        q: Effect,
+        site: Site<'_, 't>,
         name: Name,
-    ) -> Result<Shared<'t>, TypesFail>
-        requires source { IsCheckable self.now scope.now seen.old (Tree.Var name.0) }
-        requires listed { AreListed seen.old.types.keys.keys scope.now }
-        ensures ty { Checks self.now scope.now q seen.old seen.new (Tree.Var name.0) result }
-        ensures listed { KeepsListed scope.now seen.new result }
+    ) -> Result<Shared<'t>, CheckFail<'t>>
+        requires source { IsCheckable self.now site.scope.now seen.old (Tree.Var name.0) }
+        requires listed { AreListed seen.old.types.keys.keys site.scope.now }
+        ensures ty { Checks self.now site.entry seen.old seen.new (Tree.Var name.0) result }
+        ensures listed { KeepsListed site.entry.scope.now seen.new result }
     {
         seen.next += 1;
-        Ok(scope.ty(&seen.types, name))
+        Ok(site.scope.ty(&seen.types, name))
     }
 
     #[cycle(checker)]
     fn function<'t>(
         &self,
         seen: &mut Seen<'t>,
-        scope: &Scope<'_, 't>,
-        q: Effect,
+        site: Site<'_, 't>,
         function: &Function,
-    ) -> Result<Shared<'t>, TypesFail>
-        requires source { IsCheckable self.now scope.now seen.old (function_tree function.now) }
-        requires listed { AreListed seen.old.types.keys.keys scope.now }
-        ensures ty { Checks self.now scope.now q seen.old seen.new (function_tree function.now) result }
-        ensures listed { KeepsListed scope.now seen.new result }
+    ) -> Result<Shared<'t>, CheckFail<'t>>
+        requires source { IsCheckable self.now site.scope.now seen.old (function_tree function.now) }
+        requires listed { AreListed seen.old.types.keys.keys site.scope.now }
+        ensures ty { Checks self.now site.entry seen.old seen.new (function_tree function.now) result }
+        ensures listed { KeepsListed site.entry.scope.now seen.new result }
     {
         match &function.own {
-            None => self.plain(seen, scope, q, function),
-            Some(own) => self.recursive(seen, scope, q, function, own),
+            None => self.plain(seen, site, function),
+            Some(own) => self.recursive(seen, site, function, own),
         }
     }
 
@@ -114,20 +111,23 @@ impl Checker<'_> {
     fn plain<'t>(
         &self,
         seen: &mut Seen<'t>,
-        scope: &Scope<'_, 't>,
-        q: Effect,
+        site: Site<'_, 't>,
         function: &Function,
-    ) -> Result<Shared<'t>, TypesFail>
+    ) -> Result<Shared<'t>, CheckFail<'t>>
         requires none { function.now.own ≡ None }
-        requires source { IsCheckable self.now scope.now seen.old (function_tree function.now) }
-        requires listed { AreListed seen.old.types.keys.keys scope.now }
-        ensures ty { Checks self.now scope.now q seen.old seen.new (function_tree function.now) result }
-        ensures listed { KeepsListed scope.now seen.new result }
+        requires source { IsCheckable self.now site.scope.now seen.old (function_tree function.now) }
+        requires listed { AreListed seen.old.types.keys.keys site.scope.now }
+        ensures ty { Checks self.now site.entry seen.old seen.new (function_tree function.now) result }
+        ensures listed { KeepsListed site.entry.scope.now seen.new result }
     {
         seen.next += 1;
         let param = seen.types.written(&function.param_ty)?;
-        let inner = Scope::Bound(&*scope, function.param, param);
-        let body = self.term(seen, &inner, function.effect, &function.body)?;
+        let scope = Scope::Bound(&*site.scope, function.param, param);
+        let inner = Site {
+            scope: &scope,
+            effect: function.effect,
+        };
+        let body = self.term(seen, inner, &function.body)?;
         let ty = seen.types.function(function.effect, param, body)?;
         Ok(ty)
     }
@@ -136,64 +136,66 @@ impl Checker<'_> {
     fn recursive<'t>(
         &self,
         seen: &mut Seen<'t>,
-        scope: &Scope<'_, 't>,
-        q: Effect,
+        site: Site<'_, 't>,
         function: &Function,
         own: &Own,
-    ) -> Result<Shared<'t>, TypesFail>
+    ) -> Result<Shared<'t>, CheckFail<'t>>
         requires own { function.now.own ≡ Some own.now }
-        requires source { IsCheckable self.now scope.now seen.old (function_tree function.now) }
-        requires listed { AreListed seen.old.types.keys.keys scope.now }
-        ensures ty { Checks self.now scope.now q seen.old seen.new (function_tree function.now) result }
-        ensures listed { KeepsListed scope.now seen.new result }
+        requires source { IsCheckable self.now site.scope.now seen.old (function_tree function.now) }
+        requires listed { AreListed seen.old.types.keys.keys site.scope.now }
+        ensures ty { Checks self.now site.entry seen.old seen.new (function_tree function.now) result }
+        ensures listed { KeepsListed site.entry.scope.now seen.new result }
     {
         seen.next += 1;
         let place = self.place(seen, &function.body);
         let answer = seen.types.written(&own.result)?;
         let param = seen.types.written(&function.param_ty)?;
         let ty = seen.types.function(function.effect, param, answer)?;
-        let wanted = Scope::Beside(&*scope, answer);
+        let wanted = Scope::Beside(&*site.scope, answer);
         let named = Scope::Bound(&wanted, own.name, ty);
-        let inner = Scope::Bound(&named, function.param, param);
-        let found = self.term(seen, &inner, function.effect, &function.body)?;
-        expect(&seen.types, rule::TYPE_MISMATCH, place, &found, &answer, ty)
+        let scope = Scope::Bound(&named, function.param, param);
+        let inner = Site {
+            scope: &scope,
+            effect: function.effect,
+        };
+        let found = self.term(seen, inner, &function.body)?;
+        let body = Part { place, found };
+        expect(&seen.types, rule::TYPE_MISMATCH, &body, &answer, ty)
     }
 
     #[cycle(checker)]
     fn app<'t>(
         &self,
         seen: &mut Seen<'t>,
-        scope: &Scope<'_, 't>,
-        q: Effect,
+        site: Site<'_, 't>,
         function: &Term,
         argument: &Term,
-    ) -> Result<Shared<'t>, TypesFail>
-        requires source { IsCheckable self.now scope.now seen.old (Tree.Two binary.App (tree_of function.now) (tree_of argument.now)) }
-        requires listed { AreListed seen.old.types.keys.keys scope.now }
-        ensures ty { Checks self.now scope.now q seen.old seen.new (Tree.Two binary.App (tree_of function.now) (tree_of argument.now)) result }
-        ensures listed { KeepsListed scope.now seen.new result }
+    ) -> Result<Shared<'t>, CheckFail<'t>>
+        requires source { IsCheckable self.now site.scope.now seen.old (Tree.Two binary.App (tree_of function.now) (tree_of argument.now)) }
+        requires listed { AreListed seen.old.types.keys.keys site.scope.now }
+        ensures ty { Checks self.now site.entry seen.old seen.new (Tree.Two binary.App (tree_of function.now) (tree_of argument.now)) result }
+        ensures listed { KeepsListed site.entry.scope.now seen.new result }
     {
-        let at = self.places[seen.next];
+        let form = Form {
+            place: self.places[seen.next],
+            effect: site.effect,
+        };
         seen.next += 1;
-        let function_at = self.place(seen, function);
-        let callee = self.term(seen, scope, q, function)?;
+        let place = self.place(seen, function);
+        let callee = self.term(seen, site, function)?;
         match callee {
             Shared::Fun(_, effect, param, answer) => {
-                let argument_at = self.place(seen, argument);
-                let beside = Scope::Beside(&*scope, callee);
-                let found = self.term(seen, &beside, q, argument)?;
-                applied(
-                    &seen.types,
-                    at,
-                    argument_at,
-                    q,
+                let place = self.place(seen, argument);
+                let scope = Scope::Beside(&*site.scope, callee);
+                let found = self.term(seen, site.within(&scope), argument)?;
+                let callee = Callee {
                     effect,
-                    &found,
-                    param,
-                    *answer,
-                )
+                    param: *param,
+                    answer: *answer,
+                };
+                applied(&seen.types, form, &Part { place, found }, callee)
             }
-            other => Err(unfit(seen.types.alloc, rule::NO_FUNCTION, function_at, &other)),
+            found => Err(unfit(seen.types.alloc, rule::NO_FUNCTION, &Part { place, found })),
         }
     }
 
@@ -201,21 +203,20 @@ impl Checker<'_> {
     fn binding<'t>(
         &self,
         seen: &mut Seen<'t>,
-        scope: &Scope<'_, 't>,
-        q: Effect,
+        site: Site<'_, 't>,
         name: Name,
         bound: &Term,
         body: &Term,
-    ) -> Result<Shared<'t>, TypesFail>
-        requires source { IsCheckable self.now scope.now seen.old (Tree.Let name.0 (tree_of bound.now) (tree_of body.now)) }
-        requires listed { AreListed seen.old.types.keys.keys scope.now }
-        ensures ty { Checks self.now scope.now q seen.old seen.new (Tree.Let name.0 (tree_of bound.now) (tree_of body.now)) result }
-        ensures listed { KeepsListed scope.now seen.new result }
+    ) -> Result<Shared<'t>, CheckFail<'t>>
+        requires source { IsCheckable self.now site.scope.now seen.old (Tree.Let name.0 (tree_of bound.now) (tree_of body.now)) }
+        requires listed { AreListed seen.old.types.keys.keys site.scope.now }
+        ensures ty { Checks self.now site.entry seen.old seen.new (Tree.Let name.0 (tree_of bound.now) (tree_of body.now)) result }
+        ensures listed { KeepsListed site.entry.scope.now seen.new result }
     {
         seen.next += 1;
-        let ty = self.term(seen, scope, q, bound)?;
-        let inner = Scope::Bound(&*scope, name, ty);
-        let body = self.term(seen, &inner, q, body)?;
+        let ty = self.term(seen, site, bound)?;
+        let scope = Scope::Bound(&*site.scope, name, ty);
+        let body = self.term(seen, site.within(&scope), body)?;
         Ok(body)
     }
 
@@ -223,45 +224,44 @@ impl Checker<'_> {
     fn sequence<'t>(
         &self,
         seen: &mut Seen<'t>,
-        scope: &Scope<'_, 't>,
-        q: Effect,
+        site: Site<'_, 't>,
         parts: &[Term],
-    ) -> Result<Shared<'t>, TypesFail>
-        requires source { IsCheckable self.now scope.now seen.old (Tree.Do (trees_of parts.now)) }
-        requires listed { AreListed seen.old.types.keys.keys scope.now }
-        ensures ty { Checks self.now scope.now q seen.old seen.new (Tree.Do (trees_of parts.now)) result }
-        ensures listed { KeepsListed scope.now seen.new result }
+    ) -> Result<Shared<'t>, CheckFail<'t>>
+        requires source { IsCheckable self.now site.scope.now seen.old (Tree.Do (trees_of parts.now)) }
+        requires listed { AreListed seen.old.types.keys.keys site.scope.now }
+        ensures ty { Checks self.now site.entry seen.old seen.new (Tree.Do (trees_of parts.now)) result }
+        ensures listed { KeepsListed site.entry.scope.now seen.new result }
     {
         seen.next += 1;
         let mut rest = parts;
         while rest.len() > 1 {
             let part = &rest[0];
             let place = self.place(seen, part);
-            let found = self.do_part(seen, scope, q, part)?;
-            require(&seen.types, rule::NOT_UNIT, place, &found, &Shared::Unit)?;
+            let found = self.do_part(seen, site, part)?;
+            let part = Part { place, found };
+            require(&seen.types, rule::NOT_UNIT, &part, &Shared::Unit)?;
             rest = rest.split_at(1).1;
         }
-        let ty = self.term(seen, scope, q, &rest[0])?;
+        let ty = self.term(seen, site, &rest[0])?;
         Ok(ty)
     }
 
-    /// The type of a part of a `do` form. That of a constant is told at once.
+    /// Returns the type of a part of a `do` form. That of a constant is known at once.
     #[cycle(checker)]
     fn do_part<'t>(
         &self,
         seen: &mut Seen<'t>,
-        scope: &Scope<'_, 't>,
-        q: Effect,
+        site: Site<'_, 't>,
         part: &Term,
-    ) -> Result<Shared<'t>, TypesFail>
-        requires source { IsCheckable self.now scope.now seen.old (tree_of part.now) }
-        requires listed { AreListed seen.old.types.keys.keys scope.now }
-        ensures ty { Checks self.now scope.now q seen.old seen.new (tree_of part.now) result }
-        ensures listed { KeepsListed scope.now seen.new result }
+    ) -> Result<Shared<'t>, CheckFail<'t>>
+        requires source { IsCheckable self.now site.scope.now seen.old (tree_of part.now) }
+        requires listed { AreListed seen.old.types.keys.keys site.scope.now }
+        ensures ty { Checks self.now site.entry seen.old seen.new (tree_of part.now) result }
+        ensures listed { KeepsListed site.entry.scope.now seen.new result }
     {
         match part {
-            Term::Held(value) => self.held(seen, scope, q, value),
-            _ => self.term(seen, scope, q, part),
+            Term::Held(value) => self.held(seen, site, value),
+            _ => self.term(seen, site, part),
         }
     }
 
@@ -269,66 +269,54 @@ impl Checker<'_> {
     fn choice<'t>(
         &self,
         seen: &mut Seen<'t>,
-        scope: &Scope<'_, 't>,
-        q: Effect,
+        site: Site<'_, 't>,
         test: &Term,
         then: &Term,
         other: &Term,
-    ) -> Result<Shared<'t>, TypesFail>
-        requires source { IsCheckable self.now scope.now seen.old (Tree.If (tree_of test.now) (tree_of then.now) (tree_of other.now)) }
-        requires listed { AreListed seen.old.types.keys.keys scope.now }
-        ensures ty { Checks self.now scope.now q seen.old seen.new (Tree.If (tree_of test.now) (tree_of then.now) (tree_of other.now)) result }
-        ensures listed { KeepsListed scope.now seen.new result }
+    ) -> Result<Shared<'t>, CheckFail<'t>>
+        requires source { IsCheckable self.now site.scope.now seen.old (Tree.If (tree_of test.now) (tree_of then.now) (tree_of other.now)) }
+        requires listed { AreListed seen.old.types.keys.keys site.scope.now }
+        ensures ty { Checks self.now site.entry seen.old seen.new (Tree.If (tree_of test.now) (tree_of then.now) (tree_of other.now)) result }
+        ensures listed { KeepsListed site.entry.scope.now seen.new result }
     {
         seen.next += 1;
-        let test_at = self.place(seen, test);
-        let found = self.term(seen, scope, q, test)?;
-        require(
-            &seen.types,
-            rule::TYPE_MISMATCH,
-            test_at,
-            &found,
-            &Shared::Bool,
-        )?;
-        let wanted = self.term(seen, scope, q, then)?;
-        let other_at = self.place(seen, other);
-        let beside = Scope::Beside(&*scope, wanted);
-        let found = self.term(seen, &beside, q, other)?;
-        agree(&seen.types, other_at, &found, wanted)
+        let place = self.place(seen, test);
+        let found = self.term(seen, site, test)?;
+        let test = Part { place, found };
+        require(&seen.types, rule::TYPE_MISMATCH, &test, &Shared::Bool)?;
+        let wanted = self.term(seen, site, then)?;
+        let place = self.place(seen, other);
+        let scope = Scope::Beside(&*site.scope, wanted);
+        let found = self.term(seen, site.within(&scope), other)?;
+        agree(&seen.types, &Part { place, found }, wanted)
     }
 
     #[cycle(checker)]
     fn operation<'t>(
         &self,
         seen: &mut Seen<'t>,
-        scope: &Scope<'_, 't>,
-        q: Effect,
+        site: Site<'_, 't>,
         op: Op,
         left: &Term,
         right: &Term,
-    ) -> Result<Shared<'t>, TypesFail>
-        requires source { IsCheckable self.now scope.now seen.old (Tree.Two (binary.Bin op) (tree_of left.now) (tree_of right.now)) }
-        requires listed { AreListed seen.old.types.keys.keys scope.now }
-        ensures ty { Checks self.now scope.now q seen.old seen.new (Tree.Two (binary.Bin op) (tree_of left.now) (tree_of right.now)) result }
-        ensures listed { KeepsListed scope.now seen.new result }
+    ) -> Result<Shared<'t>, CheckFail<'t>>
+        requires source { IsCheckable self.now site.scope.now seen.old (Tree.Two (binary.Bin op) (tree_of left.now) (tree_of right.now)) }
+        requires listed { AreListed seen.old.types.keys.keys site.scope.now }
+        ensures ty { Checks self.now site.entry seen.old seen.new (Tree.Two (binary.Bin op) (tree_of left.now) (tree_of right.now)) result }
+        ensures listed { KeepsListed site.entry.scope.now seen.new result }
     {
         seen.next += 1;
-        let left_at = self.place(seen, left);
-        let found = self.term(seen, scope, q, left)?;
-        require(
-            &seen.types,
-            rule::TYPE_MISMATCH,
-            left_at,
-            &found,
-            &Shared::Int,
-        )?;
-        let right_at = self.place(seen, right);
-        let found = self.term(seen, scope, q, right)?;
+        let place = self.place(seen, left);
+        let found = self.term(seen, site, left)?;
+        let left = Part { place, found };
+        require(&seen.types, rule::TYPE_MISMATCH, &left, &Shared::Int)?;
+        let place = self.place(seen, right);
+        let found = self.term(seen, site, right)?;
+        let right = Part { place, found };
         expect(
             &seen.types,
             rule::TYPE_MISMATCH,
-            right_at,
-            &found,
+            &right,
             &Shared::Int,
             op_ty(op),
         )
@@ -338,52 +326,56 @@ impl Checker<'_> {
     fn one<'t>(
         &self,
         seen: &mut Seen<'t>,
-        scope: &Scope<'_, 't>,
-        q: Effect,
+        site: Site<'_, 't>,
         op: Unary,
         part: &Term,
-    ) -> Result<Shared<'t>, TypesFail>
-        requires source { IsCheckable self.now scope.now seen.old (Tree.One op (tree_of part.now)) }
-        requires listed { AreListed seen.old.types.keys.keys scope.now }
-        ensures ty { Checks self.now scope.now q seen.old seen.new (Tree.One op (tree_of part.now)) result }
-        ensures listed { KeepsListed scope.now seen.new result }
+    ) -> Result<Shared<'t>, CheckFail<'t>>
+        requires source { IsCheckable self.now site.scope.now seen.old (Tree.One op (tree_of part.now)) }
+        requires listed { AreListed seen.old.types.keys.keys site.scope.now }
+        ensures ty { Checks self.now site.entry seen.old seen.new (Tree.One op (tree_of part.now)) result }
+        ensures listed { KeepsListed site.entry.scope.now seen.new result }
     {
-        let at = self.places[seen.next];
-        stand(self.devices, op, at, q)?;
+        let form = Form {
+            place: self.places[seen.next],
+            effect: site.effect,
+        };
+        stand(seen.types.alloc, self.devices, op, form)?;
         seen.next += 1;
         let room = reserve(&mut seen.ref_tys, op)?;
-        let part_at = self.place(seen, part);
-        let found = self.term(seen, scope, q, part)?;
+        let place = self.place(seen, part);
+        let found = self.term(seen, site, part)?;
         fill(&mut seen.ref_tys, op, room, found);
-        unary_ty(&mut seen.types, op, at, part_at, q, found)
+        unary_ty(&mut seen.types, op, form, &Part { place, found })
     }
 
     #[cycle(checker)]
     fn set<'t>(
         &self,
         seen: &mut Seen<'t>,
-        scope: &Scope<'_, 't>,
-        q: Effect,
+        site: Site<'_, 't>,
         cell: &Term,
         content: &Term,
-    ) -> Result<Shared<'t>, TypesFail>
-        requires source { IsCheckable self.now scope.now seen.old (Tree.Two binary.Set (tree_of cell.now) (tree_of content.now)) }
-        requires listed { AreListed seen.old.types.keys.keys scope.now }
-        ensures ty { Checks self.now scope.now q seen.old seen.new (Tree.Two binary.Set (tree_of cell.now) (tree_of content.now)) result }
-        ensures listed { KeepsListed scope.now seen.new result }
+    ) -> Result<Shared<'t>, CheckFail<'t>>
+        requires source { IsCheckable self.now site.scope.now seen.old (Tree.Two binary.Set (tree_of cell.now) (tree_of content.now)) }
+        requires listed { AreListed seen.old.types.keys.keys site.scope.now }
+        ensures ty { Checks self.now site.entry seen.old seen.new (Tree.Two binary.Set (tree_of cell.now) (tree_of content.now)) result }
+        ensures listed { KeepsListed site.entry.scope.now seen.new result }
     {
-        let at = self.places[seen.next];
+        let form = Form {
+            place: self.places[seen.next],
+            effect: site.effect,
+        };
         seen.next += 1;
-        let cell_at = self.place(seen, cell);
-        let target = self.term(seen, scope, q, cell)?;
+        let place = self.place(seen, cell);
+        let target = self.term(seen, site, cell)?;
         match target {
             Shared::Ref(_, sort, wanted) => {
-                let content_at = self.place(seen, content);
-                let beside = Scope::Beside(&*scope, target);
-                let found = self.term(seen, &beside, q, content)?;
-                written(&seen.types, at, content_at, q, sort, &found, wanted)
+                let place = self.place(seen, content);
+                let scope = Scope::Beside(&*site.scope, target);
+                let found = self.term(seen, site.within(&scope), content)?;
+                written(&seen.types, form, &Part { place, found }, sort, wanted)
             }
-            other => Err(unfit(seen.types.alloc, rule::NO_REFERENCE, cell_at, &other)),
+            found => Err(unfit(seen.types.alloc, rule::NO_REFERENCE, &Part { place, found })),
         }
     }
 
@@ -391,23 +383,22 @@ impl Checker<'_> {
     fn spawn<'t>(
         &self,
         seen: &mut Seen<'t>,
-        scope: &Scope<'_, 't>,
-        q: Effect,
+        site: Site<'_, 't>,
         body: &Term,
-    ) -> Result<Shared<'t>, TypesFail>
-        requires source { IsCheckable self.now scope.now seen.old (Tree.Async (tree_of body.now)) }
-        requires listed { AreListed seen.old.types.keys.keys scope.now }
-        ensures ty { Checks self.now scope.now q seen.old seen.new (Tree.Async (tree_of body.now)) result }
-        ensures listed { KeepsListed scope.now seen.new result }
+    ) -> Result<Shared<'t>, CheckFail<'t>>
+        requires source { IsCheckable self.now site.scope.now seen.old (Tree.Async (tree_of body.now)) }
+        requires listed { AreListed seen.old.types.keys.keys site.scope.now }
+        ensures ty { Checks self.now site.entry seen.old seen.new (Tree.Async (tree_of body.now)) result }
+        ensures listed { KeepsListed site.entry.scope.now seen.new result }
     {
         seen.next += 1;
         let place = self.place(seen, body);
-        let found = self.term(seen, scope, Effect::Protected, body)?;
+        let found = self.term(seen, site.under(Effect::Protected), body)?;
+        let body = Part { place, found };
         expect(
             &seen.types,
             rule::NOT_UNIT,
-            place,
-            &found,
+            &body,
             &Shared::Unit,
             Shared::Unit,
         )
@@ -417,19 +408,26 @@ impl Checker<'_> {
     fn unprotected<'t>(
         &self,
         seen: &mut Seen<'t>,
-        scope: &Scope<'_, 't>,
-        q: Effect,
+        site: Site<'_, 't>,
         part: &Term,
-    ) -> Result<Shared<'t>, TypesFail>
-        requires source { IsCheckable self.now scope.now seen.old (Tree.Unprotected (tree_of part.now)) }
-        requires listed { AreListed seen.old.types.keys.keys scope.now }
-        ensures ty { Checks self.now scope.now q seen.old seen.new (Tree.Unprotected (tree_of part.now)) result }
-        ensures listed { KeepsListed scope.now seen.new result }
+    ) -> Result<Shared<'t>, CheckFail<'t>>
+        requires source { IsCheckable self.now site.scope.now seen.old (Tree.Unprotected (tree_of part.now)) }
+        requires listed { AreListed seen.old.types.keys.keys site.scope.now }
+        ensures ty { Checks self.now site.entry seen.old seen.new (Tree.Unprotected (tree_of part.now)) result }
+        ensures listed { KeepsListed site.entry.scope.now seen.new result }
     {
-        let at = self.places[seen.next];
-        under(rule::MISPLACED_UNPROTECTED, at, q, Effect::Protected)?;
+        let form = Form {
+            place: self.places[seen.next],
+            effect: site.effect,
+        };
+        under(
+            seen.types.alloc,
+            rule::MISPLACED_UNPROTECTED,
+            form,
+            Effect::Protected,
+        )?;
         seen.next += 1;
-        let ty = self.term(seen, scope, Effect::Unprotected, part)?;
+        let ty = self.term(seen, site.under(Effect::Unprotected), part)?;
         Ok(ty)
     }
 
@@ -437,20 +435,19 @@ impl Checker<'_> {
     fn pair<'t>(
         &self,
         seen: &mut Seen<'t>,
-        scope: &Scope<'_, 't>,
-        q: Effect,
+        site: Site<'_, 't>,
         first: &Term,
         second: &Term,
-    ) -> Result<Shared<'t>, TypesFail>
-        requires source { IsCheckable self.now scope.now seen.old (Tree.Two binary.Pair (tree_of first.now) (tree_of second.now)) }
-        requires listed { AreListed seen.old.types.keys.keys scope.now }
-        ensures ty { Checks self.now scope.now q seen.old seen.new (Tree.Two binary.Pair (tree_of first.now) (tree_of second.now)) result }
-        ensures listed { KeepsListed scope.now seen.new result }
+    ) -> Result<Shared<'t>, CheckFail<'t>>
+        requires source { IsCheckable self.now site.scope.now seen.old (Tree.Two binary.Pair (tree_of first.now) (tree_of second.now)) }
+        requires listed { AreListed seen.old.types.keys.keys site.scope.now }
+        ensures ty { Checks self.now site.entry seen.old seen.new (Tree.Two binary.Pair (tree_of first.now) (tree_of second.now)) result }
+        ensures listed { KeepsListed site.entry.scope.now seen.new result }
     {
         seen.next += 1;
-        let first = self.term(seen, scope, q, first)?;
-        let beside = Scope::Beside(&*scope, first);
-        let second = self.term(seen, &beside, q, second)?;
+        let first = self.term(seen, site, first)?;
+        let scope = Scope::Beside(&*site.scope, first);
+        let second = self.term(seen, site.within(&scope), second)?;
         let ty = seen.types.pair(first, second)?;
         Ok(ty)
     }

@@ -1,6 +1,6 @@
 //! The tests of the rules, on types that were found.
 
-ghost use Rattle.std.specs.Prelude.{◌≡◌, ℕ, List, Ok, nat_lt, IfOk};
+ghost use Rattle.std.specs.Prelude.{◌≡◌, ℕ, List, Ok, Err, nat_lt, IfOk};
 ghost use Rattle.ame_term.specs.View.{typ_of, val_of};
 ghost use Rattle.ame_term.specs.Shown.{Shown as Seen, wrong_effect, wrong_sort, no_device};
 ghost use Rattle.ame_term.specs.Typing.{same_type, same_effect, need, breaks, want, fits, touches, op_type, read_row, peeked_row, first_of as first_of_pair, second_of as second_of_pair, typed_value, no_cells};
@@ -8,157 +8,148 @@ ghost use Rattle.ame_term.specs.Tree.{Typ};
 ghost use Rattle.ame_term.specs.SourceTerm.{IsConstant};
 ghost use Rattle.ame_types.specs.declared.shared.Key.{Key};
 ghost use Rattle.ame_types.specs.Shared.{shared_type, IsListed};
-ghost use Rattle.ame_types.specs.Fault.{AnswersType, PassesTest, IsFirstFault, mismatch, shown_of};
+ghost use Rattle.ame_types.specs.Fault.{AnswersType, PassesTest, StopsAt, mismatch, shared_fault};
 
-use crate::build::{LARGEST, build};
-use crate::fault::{Shown, TypeFault, TypesFail};
+use crate::fault::{CheckFail, SharedFault, SharedShown};
 use crate::rule;
 use crate::shared::Shared;
+use crate::site::{Callee, Form, Part};
 use crate::table::Types;
-use ame_term::{Effect, NoMemory, Op, Sort, Ty, Value};
+use ame_term::{Effect, Op, ScalarTy, Sort, Value, boxed};
 use std::alloc::Global;
 
-/// The fault of a rule.
-fn fault(rule: u8, place: u32, found: Shown, wanted: Shown) -> TypesFail
-    ensures { IsFirstFault (breaks rule place (shown_of found) (shown_of wanted)) result }
+/// Stops a check at a fault.
+fn stop(alloc: Global, fault: SharedFault<'_>) -> CheckFail<'_>
+    ensures { StopsAt (Err (shared_fault fault.entry)) result }
 {
-    TypesFail::Fault(TypeFault {
-        rule,
-        place,
-        found,
-        wanted,
-    })
-}
-
-/// Two types, built.
-fn built(alloc: Global, found: &Shared<'_>, wanted: &Shared<'_>) -> Result<(Ty, Ty), NoMemory>
-    ensures found { IfOk result (λ both. typ_of both.0 ≡ shared_type found.now) }
-    ensures wanted { IfOk result (λ both. typ_of both.1 ≡ shared_type wanted.now) }
-{
-    let mut room = LARGEST;
-    let found = build(found, alloc, &mut room)?;
-    let wanted = build(wanted, alloc, &mut room)?;
-    Ok((found, wanted))
-}
-
-/// The fault of a part at the place, which has one type in place of the other.
-fn mismatched(
-    alloc: Global,
-    rule: u8,
-    place: u32,
-    found: &Shared<'_>,
-    wanted: &Shared<'_>,
-) -> TypesFail
-    ensures { IsFirstFault (mismatch rule place (shared_type found.now) (shared_type wanted.now)) result }
-{
-    match built(alloc, found, wanted) {
-        Ok((found, wanted)) => fault(rule, place, Shown::Ty(found), Shown::Ty(wanted)),
-        Err(_no_memory) => TypesFail::NoMemory,
+    match boxed(alloc, fault) {
+        Ok(fault) => CheckFail::Fault(fault),
+        Err(_no_memory) => CheckFail::NoMemory,
     }
 }
 
-/// The fault of a part at the place, whose type has no use there.
-pub fn unfit(alloc: Global, rule: u8, place: u32, found: &Shared<'_>) -> TypesFail
-    ensures { IsFirstFault (breaks rule place (Seen.Ty (shared_type found.now)) Seen.Nothing) result }
+/// Stops at a part that has another type than the wanted one.
+fn mismatched<'t>(alloc: Global, rule: u8, part: &Part<'t>, wanted: &Shared<'t>) -> CheckFail<'t>
+    ensures { StopsAt (mismatch rule part.now.place (shared_type part.now.found) (shared_type wanted.now)) result }
 {
-    let mut room = LARGEST;
-    match build(found, alloc, &mut room) {
-        Ok(found) => fault(rule, place, Shown::Ty(found), Shown::Nothing),
-        Err(_no_memory) => TypesFail::NoMemory,
-    }
+    stop(
+        alloc,
+        SharedFault {
+            rule,
+            place: part.place,
+            found: SharedShown::Ty(part.found),
+            wanted: SharedShown::Ty(*wanted),
+        },
+    )
 }
 
-/// The type that a form has, if its part at the place has the wanted type.
+/// Stops at a part whose type has no use there.
+pub fn unfit<'t>(alloc: Global, rule: u8, part: &Part<'t>) -> CheckFail<'t>
+    ensures { StopsAt (breaks rule part.now.place (Seen.Ty (shared_type part.now.found)) Seen.Nothing) result }
+{
+    stop(
+        alloc,
+        SharedFault {
+            rule,
+            place: part.place,
+            found: SharedShown::Ty(part.found),
+            wanted: SharedShown::Nothing,
+        },
+    )
+}
+
+/// Returns the type that a form has, if its part has the wanted type.
 pub fn expect<'t>(
     types: &Types<'t>,
     rule: u8,
-    place: u32,
-    found: &Shared<'t>,
+    part: &Part<'t>,
     wanted: &Shared<'t>,
     then: Shared<'t>,
-) -> Result<Shared<'t>, TypesFail>
-    requires found { IsListed types.now.keys.keys found.now }
+) -> Result<Shared<'t>, CheckFail<'t>>
+    requires found { IsListed types.now.keys.keys part.now.found }
     requires wanted { IsListed types.now.keys.keys wanted.now }
     requires then { IsListed types.now.keys.keys then }
-    ensures ty { AnswersType (need (same_type (shared_type found.now) (shared_type wanted.now)) (mismatch rule place (shared_type found.now) (shared_type wanted.now)) (Ok (shared_type then.entry))) result }
+    ensures ty { AnswersType (need (same_type (shared_type part.now.found) (shared_type wanted.now)) (mismatch rule part.now.place (shared_type part.now.found) (shared_type wanted.now)) (Ok (shared_type then.entry))) result }
     ensures listed { IfOk result (λ t. IsListed types.now.keys.keys t) }
 {
-    if types.same(found, wanted) {
+    if types.same(&part.found, wanted) {
         Ok(then)
     } else {
-        Err(mismatched(types.alloc, rule, place, found, wanted))
+        Err(mismatched(types.alloc, rule, part, wanted))
     }
 }
 
-/// Nothing, if the part at the place has the wanted type.
+/// Tests that a part has the wanted type.
 pub fn require<'t>(
     types: &Types<'t>,
     rule: u8,
-    place: u32,
-    found: &Shared<'t>,
+    part: &Part<'t>,
     wanted: &Shared<'t>,
-) -> Result<(), TypesFail>
-    requires found { IsListed types.now.keys.keys found.now }
+) -> Result<(), CheckFail<'t>>
+    requires found { IsListed types.now.keys.keys part.now.found }
     requires wanted { IsListed types.now.keys.keys wanted.now }
-    ensures { PassesTest (same_type (shared_type found.now) (shared_type wanted.now)) (mismatch rule place (shared_type found.now) (shared_type wanted.now)) result }
+    ensures { PassesTest (same_type (shared_type part.now.found) (shared_type wanted.now)) (mismatch rule part.now.place (shared_type part.now.found) (shared_type wanted.now)) result }
 {
-    if types.same(found, wanted) {
+    if types.same(&part.found, wanted) {
         Ok(())
     } else {
-        Err(mismatched(types.alloc, rule, place, found, wanted))
+        Err(mismatched(types.alloc, rule, part, wanted))
     }
 }
 
-/// Nothing, if the ambient effect of the form at the place is the wanted one.
-pub fn under(rule: u8, at: u32, q: Effect, wanted: Effect) -> Result<(), TypesFail>
-    ensures { PassesTest (same_effect q wanted) (breaks rule at (Seen.Effect q) (Seen.Effect wanted)) result }
+/// Tests that the form stands under the wanted effect.
+pub fn under<'t>(alloc: Global, rule: u8, form: Form, wanted: Effect) -> Result<(), CheckFail<'t>>
+    ensures { PassesTest (same_effect form.effect wanted) (breaks rule form.place (Seen.Effect form.effect) (Seen.Effect wanted)) result }
 {
-    if q == wanted {
+    if form.effect == wanted {
         Ok(())
     } else {
-        Err(fault(rule, at, Shown::Effect(q), Shown::Effect(wanted)))
+        Err(stop(
+            alloc,
+            SharedFault {
+                rule,
+                place: form.place,
+                found: SharedShown::Effect(form.effect),
+                wanted: SharedShown::Effect(wanted),
+            },
+        ))
     }
 }
 
-/// Nothing, if there is a device of this number.
-pub fn known(devices: u32, device: u32, at: u32) -> Result<(), TypesFail>
+/// Tests that there is a device of this number.
+pub fn known<'t>(alloc: Global, devices: u32, device: u32, at: u32) -> Result<(), CheckFail<'t>>
     ensures { PassesTest (nat_lt device devices) (breaks no_device at (Seen.Device device) (Seen.Device devices)) result }
 {
     if device < devices {
         Ok(())
     } else {
-        Err(fault(
-            rule::NO_DEVICE,
-            at,
-            Shown::Device(device),
-            Shown::Device(devices),
+        Err(stop(
+            alloc,
+            SharedFault {
+                rule: rule::NO_DEVICE,
+                place: at,
+                found: SharedShown::Device(device),
+                wanted: SharedShown::Device(devices),
+            },
         ))
     }
 }
 
-/// The wanted type, if the part at the place has it.
+/// Returns the wanted type, if the part has it.
 pub fn agree<'t>(
     types: &Types<'t>,
-    place: u32,
-    found: &Shared<'t>,
+    part: &Part<'t>,
     wanted: Shared<'t>,
-) -> Result<Shared<'t>, TypesFail>
-    requires found { IsListed types.now.keys.keys found.now }
+) -> Result<Shared<'t>, CheckFail<'t>>
+    requires found { IsListed types.now.keys.keys part.now.found }
     requires wanted { IsListed types.now.keys.keys wanted }
-    ensures ty { AnswersType (want place (shared_type found.now) (shared_type wanted.entry) (Ok (shared_type wanted.entry))) result }
+    ensures ty { AnswersType (want part.now.place (shared_type part.now.found) (shared_type wanted.entry) (Ok (shared_type wanted.entry))) result }
     ensures listed { IfOk result (λ t. IsListed types.now.keys.keys t) }
 {
-    expect(types, rule::TYPE_MISMATCH, place, found, &wanted, wanted)
+    expect(types, rule::TYPE_MISMATCH, part, &wanted, wanted)
 }
 
-/// Whether a function of an effect may be called under another.
-fn may_call(effect: Effect, q: Effect) -> bool
-    ensures { result ≡ fits effect q }
-{
-    effect == Effect::Either || effect == q
-}
-
-/// Whether a reference of a sort may be read and written under an effect.
+/// Returns whether a reference of a sort may be read and written under an effect.
 fn may_touch(sort: Sort, q: Effect) -> bool
     ensures { result ≡ touches sort q }
 {
@@ -168,152 +159,152 @@ fn may_touch(sort: Sort, q: Effect) -> bool
     }
 }
 
-/// The type of a call, whose argument at its place has the type found.
+/// Tests that a function of an effect may be called by the form.
+fn callable<'t>(alloc: Global, form: Form, effect: Effect) -> Result<(), CheckFail<'t>>
+    ensures { PassesTest (fits effect form.effect) (breaks wrong_effect form.place (Seen.Effect effect) (Seen.Effect form.effect)) result }
+{
+    if effect == Effect::Either || effect == form.effect {
+        Ok(())
+    } else {
+        Err(stop(
+            alloc,
+            SharedFault {
+                rule: rule::WRONG_EFFECT,
+                place: form.place,
+                found: SharedShown::Effect(effect),
+                wanted: SharedShown::Effect(form.effect),
+            },
+        ))
+    }
+}
+
+/// Tests that a reference of a sort may be read and written by the form.
+fn touchable<'t>(alloc: Global, form: Form, sort: Sort) -> Result<(), CheckFail<'t>>
+    ensures { PassesTest (touches sort form.effect) (breaks wrong_sort form.place (Seen.Sort sort) (Seen.Effect form.effect)) result }
+{
+    if may_touch(sort, form.effect) {
+        Ok(())
+    } else {
+        Err(stop(
+            alloc,
+            SharedFault {
+                rule: rule::WRONG_SORT,
+                place: form.place,
+                found: SharedShown::Sort(sort),
+                wanted: SharedShown::Effect(form.effect),
+            },
+        ))
+    }
+}
+
+/// Returns the type of a call of a function of the effect with the argument.
 pub fn applied<'t>(
     types: &Types<'t>,
-    at: u32,
-    argument_at: u32,
-    q: Effect,
-    effect: Effect,
-    found: &Shared<'t>,
-    param: &Shared<'t>,
-    answer: Shared<'t>,
-) -> Result<Shared<'t>, TypesFail>
-    requires found { IsListed types.now.keys.keys found.now }
-    requires param { IsListed types.now.keys.keys param.now }
-    requires answer { IsListed types.now.keys.keys answer }
-    ensures ty { AnswersType (want argument_at (shared_type found.now) (shared_type param.now) (need (fits effect q) (breaks wrong_effect at (Seen.Effect effect) (Seen.Effect q)) (Ok (shared_type answer.entry)))) result }
+    form: Form,
+    argument: &Part<'t>,
+    callee: Callee<'t>,
+) -> Result<Shared<'t>, CheckFail<'t>>
+    requires found { IsListed types.now.keys.keys argument.now.found }
+    requires param { IsListed types.now.keys.keys callee.param }
+    requires answer { IsListed types.now.keys.keys callee.answer }
+    ensures ty { AnswersType (want argument.now.place (shared_type argument.now.found) (shared_type callee.entry.param) (need (fits callee.entry.effect form.effect) (breaks wrong_effect form.place (Seen.Effect callee.entry.effect) (Seen.Effect form.effect)) (Ok (shared_type callee.entry.answer)))) result }
     ensures listed { IfOk result (λ t. IsListed types.now.keys.keys t) }
 {
-    if !types.same(found, param) {
-        return Err(mismatched(types.alloc, rule::TYPE_MISMATCH, argument_at, found, param));
-    }
-    if !may_call(effect, q) {
-        return Err(fault(
-            rule::WRONG_EFFECT,
-            at,
-            Shown::Effect(effect),
-            Shown::Effect(q),
-        ));
-    }
-    Ok(answer)
+    require(types, rule::TYPE_MISMATCH, argument, &callee.param)?;
+    callable(types.alloc, form, callee.effect)?;
+    Ok(callee.answer)
 }
 
-/// What is read through a value of the type found.
-pub fn read<'t>(
-    types: &Types<'t>,
-    at: u32,
-    part_at: u32,
-    q: Effect,
-    found: Shared<'t>,
-) -> Result<Shared<'t>, TypesFail>
-    requires { IsListed types.now.keys.keys found }
-    ensures ty { AnswersType (read_row at part_at q (shared_type found.entry)) result }
+/// Returns the type of what is read through a value of the part's type.
+pub fn read<'t>(types: &Types<'t>, form: Form, part: &Part<'t>) -> Result<Shared<'t>, CheckFail<'t>>
+    requires { IsListed types.now.keys.keys part.now.found }
+    ensures ty { AnswersType (read_row form.place part.now.place form.effect (shared_type part.now.found)) result }
     ensures listed { IfOk result (λ t. IsListed types.now.keys.keys t) }
 {
-    match found {
+    match part.found {
         Shared::Ref(_, sort, content) => {
-            if may_touch(sort, q) {
-                Ok(*content)
-            } else {
-                Err(fault(rule::WRONG_SORT, at, Shown::Sort(sort), Shown::Effect(q)))
-            }
+            touchable(types.alloc, form, sort)?;
+            Ok(*content)
         }
-        other => Err(unfit(types.alloc, rule::NO_REFERENCE, part_at, &other)),
+        _ => Err(unfit(types.alloc, rule::NO_REFERENCE, part)),
     }
 }
 
-/// What is peeked at through a value of the type found.
-pub fn peeked<'t>(
-    types: &Types<'t>,
-    at: u32,
-    part_at: u32,
-    found: Shared<'t>,
-) -> Result<Shared<'t>, TypesFail>
-    requires { IsListed types.now.keys.keys found }
-    ensures ty { AnswersType (peeked_row at part_at (shared_type found.entry)) result }
+/// Returns the type of what is peeked at through a value of the part's type.
+pub fn peeked<'t>(types: &Types<'t>, at: u32, part: &Part<'t>) -> Result<Shared<'t>, CheckFail<'t>>
+    requires { IsListed types.now.keys.keys part.now.found }
+    ensures ty { AnswersType (peeked_row at part.now.place (shared_type part.now.found)) result }
     ensures listed { IfOk result (λ t. IsListed types.now.keys.keys t) }
 {
-    match found {
+    match part.found {
         Shared::Ref(_, Sort::Protected, content) => Ok(*content),
-        Shared::Ref(_, sort, _) => Err(fault(
-            rule::WRONG_SORT,
-            at,
-            Shown::Sort(sort),
-            Shown::Sort(Sort::Protected),
+        Shared::Ref(_, sort, _) => Err(stop(
+            types.alloc,
+            SharedFault {
+                rule: rule::WRONG_SORT,
+                place: at,
+                found: SharedShown::Sort(sort),
+                wanted: SharedShown::Sort(Sort::Protected),
+            },
         )),
-        other => Err(unfit(types.alloc, rule::NO_REFERENCE, part_at, &other)),
+        _ => Err(unfit(types.alloc, rule::NO_REFERENCE, part)),
     }
 }
 
-/// The type of a write, whose content at its place has the type found.
+/// Returns the type of a write of the content through a reference of the sort.
 pub fn written<'t>(
     types: &Types<'t>,
-    at: u32,
-    content_at: u32,
-    q: Effect,
+    form: Form,
+    content: &Part<'t>,
     sort: Sort,
-    found: &Shared<'t>,
     wanted: &Shared<'t>,
-) -> Result<Shared<'t>, TypesFail>
-    requires found { IsListed types.now.keys.keys found.now }
+) -> Result<Shared<'t>, CheckFail<'t>>
+    requires found { IsListed types.now.keys.keys content.now.found }
     requires wanted { IsListed types.now.keys.keys wanted.now }
-    ensures ty { AnswersType (want content_at (shared_type found.now) (shared_type wanted.now) (need (touches sort q) (breaks wrong_sort at (Seen.Sort sort) (Seen.Effect q)) (Ok Typ.Unit))) result }
+    ensures ty { AnswersType (want content.now.place (shared_type content.now.found) (shared_type wanted.now) (need (touches sort form.effect) (breaks wrong_sort form.place (Seen.Sort sort) (Seen.Effect form.effect)) (Ok Typ.Unit))) result }
     ensures listed { IfOk result (λ t. IsListed types.now.keys.keys t) }
 {
-    if !types.same(found, wanted) {
-        return Err(mismatched(types.alloc, rule::TYPE_MISMATCH, content_at, found, wanted));
-    }
-    if !may_touch(sort, q) {
-        return Err(fault(rule::WRONG_SORT, at, Shown::Sort(sort), Shown::Effect(q)));
-    }
+    require(types, rule::TYPE_MISMATCH, content, wanted)?;
+    touchable(types.alloc, form, sort)?;
     Ok(Shared::Unit)
 }
 
-/// The first part of a pair of the type found.
-pub fn first_of<'t>(
-    types: &Types<'t>,
-    place: u32,
-    found: Shared<'t>,
-) -> Result<Shared<'t>, TypesFail>
-    requires { IsListed types.now.keys.keys found }
-    ensures ty { AnswersType (first_of_pair place (shared_type found.entry)) result }
+/// Returns the type of the first part of a pair.
+pub fn first_of<'t>(types: &Types<'t>, part: &Part<'t>) -> Result<Shared<'t>, CheckFail<'t>>
+    requires { IsListed types.now.keys.keys part.now.found }
+    ensures ty { AnswersType (first_of_pair part.now.place (shared_type part.now.found)) result }
     ensures listed { IfOk result (λ t. IsListed types.now.keys.keys t) }
 {
-    match found {
+    match part.found {
         Shared::Pair(_, first, _) => Ok(*first),
-        other => Err(unfit(types.alloc, rule::NO_PAIR, place, &other)),
+        _ => Err(unfit(types.alloc, rule::NO_PAIR, part)),
     }
 }
 
-/// The second part of a pair of the type found.
-pub fn second_of<'t>(
-    types: &Types<'t>,
-    place: u32,
-    found: Shared<'t>,
-) -> Result<Shared<'t>, TypesFail>
-    requires { IsListed types.now.keys.keys found }
-    ensures ty { AnswersType (second_of_pair place (shared_type found.entry)) result }
+/// Returns the type of the second part of a pair.
+pub fn second_of<'t>(types: &Types<'t>, part: &Part<'t>) -> Result<Shared<'t>, CheckFail<'t>>
+    requires { IsListed types.now.keys.keys part.now.found }
+    ensures ty { AnswersType (second_of_pair part.now.place (shared_type part.now.found)) result }
     ensures listed { IfOk result (λ t. IsListed types.now.keys.keys t) }
 {
-    match found {
+    match part.found {
         Shared::Pair(_, _, second) => Ok(*second),
-        other => Err(unfit(types.alloc, rule::NO_PAIR, place, &other)),
+        _ => Err(unfit(types.alloc, rule::NO_PAIR, part)),
     }
 }
 
-/// What an operator gives.
+/// Returns the type that an operator gives.
 pub fn op_ty<'t>(op: Op) -> Shared<'t>
     ensures ty { shared_type result ≡ op_type op }
     ensures listed { (keys : List Key) → IsListed keys result }
 {
-    match op {
-        Op::Add | Op::Sub | Op::Mul => Shared::Int,
-        Op::Less | Op::Same => Shared::Bool,
+    match op.gives() {
+        ScalarTy::Bool => Shared::Bool,
+        ScalarTy::Int => Shared::Int,
     }
 }
 
-/// The type of a constant.
+/// Returns the type of a constant.
 #[tactic(auto, unfolding(ame_term::specs::Typing::typed_value))]
 pub fn constant<'t>(value: &Value) -> Shared<'t>
     requires { IsConstant (val_of value.now) }

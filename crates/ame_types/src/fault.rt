@@ -2,9 +2,10 @@
 
 ghost use Rattle.std.specs.Prelude.{◌≡◌};
 
+use crate::shared::Shared;
 use ame_term::{Effect, NoMemory, Sort, Ty};
 
-/// What a fault shows.
+/// Lists what a fault can show.
 #[derive(Drop)]
 pub enum Shown {
     Nothing,
@@ -28,15 +29,43 @@ pub struct TypeFault {
 #[derive(Drop)]
 pub enum TypesFail {
     Fault(TypeFault),
+    /// The types of the answer have more than 1,048,576 nodes together.
+    TooLarge,
     NoMemory,
 }
 
-impl From<NoMemory> for TypesFail {
-    ghost use Rattle.ame_types.specs.declared.fault.TypesFail.TheVariants as fail;
+/// Lists what a fault can show, with types of a table.
+#[derive(Clone, Copy)]
+pub enum SharedShown<'t> {
+    Nothing,
+    Ty(Shared<'t>),
+    Effect(Effect),
+    Sort(Sort),
+    Device(u32),
+}
+
+/// A fault with types of a table.
+#[derive(Clone, Copy)]
+pub struct SharedFault<'t> {
+    pub rule: u8,
+    pub place: u32,
+    pub found: SharedShown<'t>,
+    pub wanted: SharedShown<'t>,
+}
+
+/// Why a part has no type. The fault is in a box, so that an answer is small.
+#[derive(Drop)]
+pub enum CheckFail<'t> {
+    Fault(Box<SharedFault<'t>>),
+    NoMemory,
+}
+
+impl From<NoMemory> for CheckFail<'_> {
+    ghost use Rattle.ame_types.specs.declared.fault.CheckFail.TheVariants as fail;
 
     ghost from_gives = { λ _ e. e ≡ fail.NoMemory };
 
-    fn from(_error: NoMemory) -> TypesFail {
-        TypesFail::NoMemory
+    fn from(_error: NoMemory) -> Self {
+        CheckFail::NoMemory
     }
 }

@@ -1,4 +1,4 @@
-//! The checker of types: whether a program is typed, and the first fault where it isn't.
+//! The checker of types: it accepts a typed program, and answers the first fault of any other.
 #![tactic(auto)]
 
 mod build;
@@ -11,6 +11,7 @@ pub mod rule;
 mod scope;
 mod seen;
 mod shared;
+mod site;
 mod table;
 mod unary;
 

@@ -1,9 +1,9 @@
-//! The rules of typing, by the numbers that faults tell.
+//! The rules of typing, by the numbers that faults report.
 
 /// A part is of another type than the form needs.
 pub const TYPE_MISMATCH: u8 = 1;
 
-/// What is called is no function.
+/// A call is of something other than a function.
 pub const NO_FUNCTION: u8 = 2;
 
 /// The form may not stand under this effect.
@@ -12,7 +12,7 @@ pub const WRONG_EFFECT: u8 = 3;
 /// The reference is of the sort of other code.
 pub const WRONG_SORT: u8 = 4;
 
-/// What is read or written is no reference.
+/// A read or a write is of something other than a reference.
 pub const NO_REFERENCE: u8 = 5;
 
 /// `blockUntil` stands outside of protected code.
@@ -24,8 +24,8 @@ pub const MISPLACED_UNPROTECTED: u8 = 7;
 /// There is no device of this number.
 pub const NO_DEVICE: u8 = 8;
 
-/// What has no value to give gives one.
+/// A value is given at a place that discards it.
 pub const NOT_UNIT: u8 = 9;
 
-/// What is taken apart is no pair.
+/// A part is taken of something other than a pair.
 pub const NO_PAIR: u8 = 11;

@@ -20,7 +20,7 @@ impl<'a, 't> Scope<'a, 't> {
     ghost use Rattle.ame_types.specs.Shared.{shared_type, IsListed};
     ghost use Rattle.ame_types.specs.Scope.{scope_of, names_of, AreListed};
 
-    /// The type of a name in scope, which the table has. Takes time by the number of links within its own.
+    /// Returns the type of a name in scope, which the table has. Takes time by the number of links within its own.
     pub fn ty(&self, types: &Types<'t>, name: Name) -> Shared<'t>
         requires bound { IsTrue (is_name_of (names_of self.now) name.0) }
         requires listed { AreListed types.now.keys.keys self.now }

@@ -1,4 +1,4 @@
-//! What a check goes by.
+//! The state of a check.
 
 ghost use Rattle.std.specs.Prelude.{◌≡◌, ◌+◌, ◌≤◌, length, slice_index};
 ghost use Rattle.ame_term.specs.View.{tree_of};
@@ -8,14 +8,14 @@ use crate::shared::Shared;
 use crate::table::Types;
 use ame_term::Term;
 
-/// What stays the same while a program is checked.
+/// The data that holds for the whole of a program.
 #[derive(Clone, Copy)]
 pub struct Checker<'a> {
     pub devices: u32,
     pub places: &'a [u32],
 }
 
-/// How far a check has come: the number of the next node in preorder, the types that were stored, and
+/// The state of a check: the number of the next node in preorder, the types that were stored, and
 /// the table of types.
 #[derive(Drop)]
 pub struct Seen<'t> {
@@ -25,7 +25,7 @@ pub struct Seen<'t> {
 }
 
 impl Checker<'_> {
-    /// The place of a term whose first node is the next one.
+    /// Returns the place of a term whose first node is the next one.
     #[tactic(auto, using(crate::proofs::Nodes::positive))]
     pub fn place(&self, seen: &Seen<'_>, term: &Term) -> u32
         requires { seen.now.next + nodes (tree_of term.now) ≤ length self.now.places.now }

@@ -13,7 +13,7 @@ pub enum Shared<'t> {
     Pair(usize, &'t Shared<'t>, &'t Shared<'t>),
 }
 
-/// What tells the types of a table apart.
+/// The mark that sets the types of a table apart.
 #[derive(Clone, Copy, PartialEq, Eq, Hash)]
 pub enum Mark {
     Unit,
@@ -22,7 +22,7 @@ pub enum Mark {
     Numbered(usize),
 }
 
-/// Of which code a reference or a function is.
+/// The code that a reference or a function belongs to.
 #[derive(Clone, Copy, PartialEq, Eq, Hash)]
 pub enum Zone {
     Protected,

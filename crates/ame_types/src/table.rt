@@ -14,7 +14,7 @@ use indexmap::IndexSet;
 use std::alloc::Global;
 
 /// Each type with parts that a program has, once, by its number: the place of its key. The parts stay
-/// where they are until all go at once.
+/// in their place until all go at once.
 #[derive(Drop)]
 pub struct Types<'t> {
     pub alloc: Global,
@@ -31,7 +31,7 @@ impl<'t> Types<'t> {
         }
     }
 
-    /// The number of a key, which is new or has one.
+    /// Returns the number of a key, which is new or has one.
     fn number(&mut self, key: Key) -> Result<usize, NoMemory>
         ensures stays { Lengthens self.old.keys.keys self.new.keys.keys }
         ensures listed { IfOk result (λ n. slice_get self.new.keys.keys n ≡ Some key) }
@@ -82,7 +82,7 @@ impl<'t> Types<'t> {
         Ok(Shared::Pair(number, first, second))
     }
 
-    /// A type that the text writes, by its size.
+    /// Makes the type that the text writes, in time by its size.
     pub fn written(&mut self, ty: &Ty) -> Result<Shared<'t>, NoMemory>
         ensures stays { Lengthens self.old.keys.keys self.new.keys.keys }
         ensures ty { IfOk result (λ t. shared_type t ≡ typ_of ty.now) }
@@ -109,7 +109,7 @@ impl<'t> Types<'t> {
         }
     }
 
-    /// Whether two types of the table are the same, by their numbers.
+    /// Returns whether two types of the table are the same, by their numbers.
     pub fn same(&self, a: &Shared<'t>, b: &Shared<'t>) -> bool
         requires a { IsListed self.now.keys.keys a.now }
         requires b { IsListed self.now.keys.keys b.now }

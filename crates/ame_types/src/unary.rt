@@ -4,75 +4,61 @@ ghost use Rattle.std.specs.Prelude.{◌≡◌, ℕ, ◌++◌, true, Ok, length, 
 ghost use Rattle.ame_term.specs.Shown.{TypeOutcome};
 ghost use Rattle.ame_term.specs.Typing.{unary_row};
 ghost use Rattle.ame_types.specs.Shared.{shared_type, IsListed, Lengthens};
-ghost use Rattle.ame_types.specs.Fault.{AnswersType, IsFirstFault};
+ghost use Rattle.ame_types.specs.Fault.{AnswersType, StopsAt};
 ghost use Rattle.ame_types.specs.Unary.{stands_under, ref_room, HasRefRoom, filled};
 
 use crate::expect::{expect, first_of, known, peeked, read, second_of, under};
-use crate::fault::TypesFail;
+use crate::fault::CheckFail;
 use crate::rule;
 use crate::shared::Shared;
+use crate::site::{Form, Part};
 use crate::table::Types;
 use ame_term::{Effect, NoMemory, Unary, push};
+use std::alloc::Global;
 
-/// Nothing, if a form may stand under an effect, whatever its part is; else the fault.
-pub fn stand(devices: u32, op: Unary, at: u32, q: Effect) -> Result<(), TypesFail>
-    ensures ok { OnOk result (stands_under devices op q ≡ true) }
-    ensures err { IfErr result (λ e. (part_at : ℕ) (part : TypeOutcome) → IsFirstFault (unary_row devices op at part_at q part) e) }
+/// Tests what a form with one part needs whatever its part is.
+pub fn stand<'t>(alloc: Global, devices: u32, op: Unary, form: Form) -> Result<(), CheckFail<'t>>
+    ensures ok { OnOk result (stands_under devices op form.effect ≡ true) }
+    ensures err { IfErr result (λ e. (part_at : ℕ) (part : TypeOutcome) → StopsAt (unary_row devices op form.place part_at form.effect part) e) }
 {
     match op {
-        Unary::Peek => under(rule::WRONG_EFFECT, at, q, Effect::Unprotected),
-        Unary::Block => under(rule::MISPLACED_BLOCK, at, q, Effect::Protected),
+        Unary::Peek => under(alloc, rule::WRONG_EFFECT, form, Effect::Unprotected),
+        Unary::Block => under(alloc, rule::MISPLACED_BLOCK, form, Effect::Protected),
         Unary::Call(device) => {
-            under(rule::WRONG_EFFECT, at, q, Effect::Unprotected)?;
-            known(devices, u32::from(device), at)
+            under(alloc, rule::WRONG_EFFECT, form, Effect::Unprotected)?;
+            known(alloc, devices, u32::from(device), form.place)
         }
         _ => Ok(()),
     }
 }
 
-/// The type of a form, whose part has the type found.
+/// Returns the type of a form with this part.
 pub fn unary_ty<'t>(
     types: &mut Types<'t>,
     op: Unary,
-    at: u32,
-    part_at: u32,
-    q: Effect,
-    found: Shared<'t>,
-) -> Result<Shared<'t>, TypesFail>
-    requires { IsListed types.old.keys.keys found }
-    ensures ty { (devices : ℕ) → stands_under devices op q ≡ true → AnswersType (unary_row devices op at part_at q (Ok (shared_type found.entry))) result }
+    form: Form,
+    part: &Part<'t>,
+) -> Result<Shared<'t>, CheckFail<'t>>
+    requires { IsListed types.old.keys.keys part.now.found }
+    ensures ty { (devices : ℕ) → stands_under devices op form.effect ≡ true → AnswersType (unary_row devices op form.place part.now.place form.effect (Ok (shared_type part.now.found))) result }
     ensures stays { Lengthens types.old.keys.keys types.new.keys.keys }
     ensures listed { IfOk result (λ t. IsListed types.new.keys.keys t) }
 {
     let mismatch = rule::TYPE_MISMATCH;
     match op {
-        Unary::Not => expect(
-            types,
-            mismatch,
-            part_at,
-            &found,
-            &Shared::Bool,
-            Shared::Bool,
-        ),
-        Unary::Ref(sort, _) => Ok(types.reference(sort, found)?),
-        Unary::Get => read(types, at, part_at, q, found),
-        Unary::Peek => peeked(types, at, part_at, found),
-        Unary::Block => expect(
-            types,
-            mismatch,
-            part_at,
-            &found,
-            &Shared::Bool,
-            Shared::Unit,
-        ),
-        Unary::Print => expect(types, mismatch, part_at, &found, &Shared::Int, Shared::Unit),
-        Unary::Call(_) => expect(types, mismatch, part_at, &found, &Shared::Int, Shared::Int),
-        Unary::First => first_of(types, part_at, found),
-        Unary::Second => second_of(types, part_at, found),
+        Unary::Not => expect(types, mismatch, part, &Shared::Bool, Shared::Bool),
+        Unary::Ref(sort, _) => Ok(types.reference(sort, part.found)?),
+        Unary::Get => read(types, form, part),
+        Unary::Peek => peeked(types, form.place, part),
+        Unary::Block => expect(types, mismatch, part, &Shared::Bool, Shared::Unit),
+        Unary::Print => expect(types, mismatch, part, &Shared::Int, Shared::Unit),
+        Unary::Call(_) => expect(types, mismatch, part, &Shared::Int, Shared::Int),
+        Unary::First => first_of(types, part),
+        Unary::Second => second_of(types, part),
     }
 }
 
-/// Makes room at the end for the type that a `ref` form stores, and tells the number of the end. Other
+/// Makes room at the end for the type that a `ref` form stores, and returns the number of the end. Other
 /// forms store none.
 pub fn reserve(tys: &mut Vec<Shared<'_>>, op: Unary) -> Result<usize, NoMemory>
     ensures number { IfOk result (λ n. n ≡ length (map shared_type tys.old.items)) }

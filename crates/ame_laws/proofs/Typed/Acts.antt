@@ -7,11 +7,12 @@ use Rattle.ame_term.specs.Signature.{Signature}
 use Rattle.ame_term.specs.Scope.{bind, unscoped}
 use Rattle.ame_term.specs.Substitute.{substitute, with_own, entered}
 use Rattle.ame_term.specs.Redex.{is_redex}
-use Rattle.ame_term.specs.Act.{act_of, if_act, unary_act, binary_act}
+use Rattle.ame_term.specs.Act.{Act, act_of, if_act, unary_act, binary_act}
 use Rattle.ame_term.specs.HasType.{HasType, HasValue, HasUnary, HasBinary, held, name, function, recursive, binding, sequence, choice, async, unprotected, one, two, last, more, bool, int, location, function_value, recursive_value, pair}
 use Rattle.ame_term.specs.declared.types.Effect.{Effect}
 use Rattle.ame_term.specs.declared.types.Unary.{Unary}
 use Rattle.ame_term.specs.declared.types.Binary.{Binary}
+use Rattle.ame_term.proofs.OperatorLemmas.{IsScalar, result-is-scalar}
 use Rattle.ame_laws.specs.Typed.StoreTyping.{StoreTyping}
 use Rattle.ame_laws.specs.Typed.WellFormed.{IsWellFormed, IsWellFormedValue, AreWellFormed}
 use Rattle.ame_laws.specs.Typed.Fragment.{IsFragment}
@@ -64,6 +65,11 @@ module _ (signature : Signature) (cells : StoreTyping) where
   unary_typed _ _ q _ _ HasUnary.first (pair h k) f = (held h, f.0)
   unary_typed _ _ q _ _ HasUnary.second (pair h k) f = (held k, f.1)
 
+  scalar_act : (v : Val) (t : Typ) (q : Effect) → IsScalar v t → IsTypedAct signature cells q t (Act.Becomes (Tree.Held v))
+  unfolding IsWellFormed IsWellFormedValue
+  scalar_act _ _ q (IsScalar.bool b) = (held bool, tt)
+  scalar_act _ _ q (IsScalar.int n) = (held int, tt)
+
   binary_typed : (op : Binary) (v w : Val) (q : Effect) (t u z : Typ) → HasBinary op q t u z → HasValue signature cells v t → HasValue signature cells w u → IsWellFormedValue v → IsWellFormedValue w
       → IsTypedAct signature cells q z (binary_act op v w)
   unfolding IsWellFormed IsWellFormedValue
@@ -71,11 +77,8 @@ module _ (signature : Signature) (cells : StoreTyping) where
       (fitted (plain_entered head body w z o b a) q fits, formed_entered head body w f g)
   binary_typed _ _ w q _ u _ (HasBinary.app fits) (recursive_value {head} {own} {body} o b) a f g =
       (fitted (recursive_entered head own body w o b a) q fits, formed_entered head body w f g)
-  binary_typed _ _ _ q _ _ _ HasBinary.sum int int f g = (held int, tt)
-  binary_typed _ _ _ q _ _ _ HasBinary.difference int int f g = (held int, tt)
-  binary_typed _ _ _ q _ _ _ HasBinary.product int int f g = (held int, tt)
-  binary_typed _ _ _ q _ _ _ HasBinary.less int int f g = (held bool, tt)
-  binary_typed _ _ _ q _ _ _ HasBinary.equal int int f g = (held bool, tt)
+  binary_typed _ _ _ q _ _ _ (HasBinary.operation o) (int {n = x}) (int {n = y}) f g =
+      scalar_act _ _ q (result-is-scalar o x y)
   binary_typed _ _ w q _ u _ (HasBinary.set {s} k) (location e) a f g = (s, u, e, (a, g), k, refl)
   binary_typed _ v w q t u _ HasBinary.pair a b f g = (held (pair a b), (f, g))
 

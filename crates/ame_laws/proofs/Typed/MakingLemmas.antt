@@ -58,7 +58,7 @@ pub some_kind : (o : Option StepName) (l : Loc) → IsSome o → (name : StepNam
 some_kind None l there = absurd (cc)
 some_kind (Some name) l there = (name, refl, kind_named-named name l)
 
--- A typed act can be made where it stands.
+-- A typed act can be made in its place.
 
 pub is_unprotected : (side : Side) → effect_at side Effect.Protected ≡ Effect.Unprotected → side ≡ Side.Unprotected
 is_unprotected Side.Unprotected e = refl
@@ -87,7 +87,7 @@ module _ (signature : Signature) (cells : StoreTyping) (known : ℕ → Bool) (t
   pub can_be_made : (act : Act) → IsTypedAct signature cells (effect_at side Effect.Protected) t act → IsOther act → CanBeMade known side act
   can_be_made act a o = (made_act act a o, known_act act a)
 
--- The steps that make an act have an effect, where the location that they make is fresh.
+-- The steps that make an act have an effect, if the location that they make is fresh.
 
 -- whether a kind of step is of the name in a row
 abbrev is_named : Option (Sides × StepName) → StepKind → Bool

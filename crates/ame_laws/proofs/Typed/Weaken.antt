@@ -52,11 +52,7 @@ unary_either HasUnary.second e r = HasUnary.second
 binary_either : {op : Binary} {q : Effect} {t u w : Typ} → HasBinary op q t u w → q ≡ Effect.Either → (r : Effect) → HasBinary op r t u w
 binary_either (HasBinary.app (inl k)) e r = HasBinary.app (inr (k ∙ e))
 binary_either (HasBinary.app (inr k)) e r = HasBinary.app (inr k)
-binary_either HasBinary.sum e r = HasBinary.sum
-binary_either HasBinary.difference e r = HasBinary.difference
-binary_either HasBinary.product e r = HasBinary.product
-binary_either HasBinary.less e r = HasBinary.less
-binary_either HasBinary.equal e r = HasBinary.equal
+binary_either (HasBinary.operation o) e r = HasBinary.operation o
 binary_either (HasBinary.set {s} k) e r = absurd (never_either s (k ∙ e))
 binary_either HasBinary.pair e r = HasBinary.pair
 

@@ -14,7 +14,7 @@ use Rattle.ame_laws.specs.Rules.{Becomes, Reduces}
 use Rattle.ame_laws.specs.Typed.StoreTyping.{StoreTyping}
 use Rattle.ame_laws.specs.Typed.Fragment.{IsValueOf}
 
--- What takes a redex's place, on a side of `unprotected`. A read is fed a value of the location's
+-- The part that takes a redex's place, on a side of `unprotected`. A read is fed a value of the location's
 -- type, an allocation a location of the sort and the type that it makes, a device's call any answer.
 -- `peek` and devices need the one side; `blockUntil`, and a form that closes, the other.
 pub data LocalStep (signature : Signature) (cells : StoreTyping) : Side → Tree → Tree → Type 0 where
@@ -43,6 +43,6 @@ pub data LocalRun (signature : Signature) (cells : StoreTyping) : Tree → Tree 
 abbrev pub HasReduction : Side → Tree → Tree → Type 0
 HasReduction side redex part = (s : State) × (kind : StepKind) × (t : State) × Reduces s side kind redex part t
 
--- an `unprotected` form with a value in it, where protected code stands, and the value
+-- an `unprotected` form with a value in it, in protected code, and the value
 abbrev pub ClosesAtValue : Side → Tree → Tree → Type 0
 ClosesAtValue side redex part = (v : Val) × (side ≡ Side.Protected) × (redex ≡ Tree.Unprotected (Tree.Held v)) × (part ≡ Tree.Held v)

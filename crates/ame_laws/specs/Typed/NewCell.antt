@@ -1,4 +1,4 @@
--- What a step allocates, where the types of all locations are given.
+-- The cell that a step allocates, if the types of all locations are given.
 use Rattle.std.specs.Prelude.{◌≡◌, ℕ, List, Some}
 use Rattle.ame_term.specs.Tree.{Typ, Val, Tree}
 use Rattle.ame_term.specs.Signature.{Signature}

@@ -1,4 +1,4 @@
--- What a member of a typed state can do, and by which labels.
+-- The next thing that a member of a typed state can do, and the labels for it.
 use Rattle.std.specs.Prelude.{◌≡◌, ℕ, Bool, true, false, ◌&&◌, IsTrue, List, [], Some, IsSome, is_none, is_some}
 use Rattle.ame_term.specs.Tree.{Val, Tree}
 use Rattle.ame_term.specs.Frame.{Frame, Side, plug_all, same_side, side_of}
@@ -47,7 +47,7 @@ abbrev pub CanBeMade : (ℕ → Bool) → Side → Act → Type 0
 CanBeMade known side act = IsSome (making_on side act) × IsKnown known act
 
 -- A term is a value; or waits; or stands at `unprotected` with a value in it; or has a redex whose
--- act can be made where it stands.
+-- act can be made in its place.
 pub data Progresses (known : ℕ → Bool) : Focus → Type 0 where
   ends : (v : Val) → Progresses known (Focus.AtValue v)
   waits : Progresses known (Focus.AtRedex Side.Protected waiting)
@@ -67,7 +67,7 @@ abbrev pub is_fresh : State → StepKind → Bool
 is_fresh s (StepKind.Alloc l) = is_none (at s.store l.0)
 is_fresh s _ = true
 
--- whether a step of a kind, on the side of `unprotected` that is told, makes the act of the redex there
+-- whether a step of a kind, on the given side of `unprotected`, makes the act of the redex there
 abbrev pub is_step : State → Side → Focus → StepKind → Bool
 is_step s side (Focus.AtValue v) kind = false
 is_step s side (Focus.AtRedex under redex) kind = same_side side under && (makes side kind (act_of redex) && is_fresh s kind)

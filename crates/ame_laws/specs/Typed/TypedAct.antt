@@ -1,4 +1,4 @@
--- What a redex of a type does, and what it may become.
+-- The act of a redex of a type, and the terms that it may become.
 use Rattle.std.specs.Prelude.{◌≡◌, ◌<◌, Some}
 use Rattle.ame_term.specs.Tree.{Typ}
 use Rattle.ame_term.specs.Signature.{Signature, MayStore}

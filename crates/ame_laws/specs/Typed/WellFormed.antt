@@ -1,4 +1,4 @@
--- What typing leaves open: that each `do` has two parts or more, as in every program text. Without
+-- The condition that typing leaves open: each `do` has two parts or more, as in every program text. Without
 -- it a typed `do` with one part would have no reduction.
 use Rattle.ame_term.specs.Tree.{Val, Tree, Trees}
 use Rattle.ame_term.specs.SourceTerm.{HasTwo}

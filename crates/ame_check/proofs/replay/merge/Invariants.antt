@@ -1,4 +1,4 @@
--- What is set is set over the cells.
+-- The cells, with the values that are set.
 use Rattle.std.proofs.Common.{◌≡◌, ℕ, length}
 use Rattle.ame_term.specs.Maps.{at}
 use Rattle.ame_journal.specs.Replay.{or_else}

@@ -1,4 +1,4 @@
--- What `read_all` has read so far. Each turn adds a byte at least, up to the limit.
+-- The bytes that `read_all` has read so far. Each turn adds at least a byte, up to the limit.
 use Rattle.std.proofs.Common.{◌≡◌, ◌-◌, ◌≤◌, length, vec_len, vec_capacity}
 use Rattle.std.specs.Io.KnownBytes.{Consumes}
 use Rattle.ame_io.proofs.whole_read.read_all.Given as goal

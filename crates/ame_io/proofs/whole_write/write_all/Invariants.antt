@@ -1,4 +1,4 @@
--- What `write_all` has appended so far. Each turn leaves less to write.
+-- The bytes that `write_all` has appended so far. Each turn leaves less to write.
 use Rattle.std.proofs.Common.{◌≡◌, ◌-◌, ◌≤◌, length, take}
 use Rattle.std.specs.Io.KnownBytes.{Appends}
 use Rattle.ame_io.proofs.whole_write.write_all.Given as goal

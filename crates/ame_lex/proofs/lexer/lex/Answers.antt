@@ -13,7 +13,7 @@ use Rattle.ame_lex.proofs.lexer.lex.Goals as goal
 lexes_read : (text : List ℕ) (outcome : Result (List Token) LexFault) → tokens_of text ≡ outcome → Lexes 0 text outcome
 lexes_read text outcome e = subst (Lexes 0 text) e (lexes_text text)
 
--- where the answer is `Ok`, its tokens are what is read
+-- if the answer is `Ok`, its tokens are those that were read
 read_ok : {P : List Token → Type 0} (text : List ℕ) (r : Result (Vec Token Global) LexFault) → AnswersTokens (λ v. v.items) r (tokens_of text)
     → ((tokens : List Token) → tokens_of text ≡ Ok tokens → P tokens) → IfOk r (λ v. P v.items)
 read_ok text (Ok v) read h = h v.items read

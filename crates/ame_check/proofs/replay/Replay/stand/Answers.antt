@@ -1,12 +1,11 @@
-use Rattle.std.proofs.Common.{◌≡◌, ℕ, ◌≤◌, List, map, sym, ap, ◌∙◌, subst, arith}
+use Rattle.std.proofs.Common.{◌≡◌, ◌≤◌, sym, ap, ◌∙◌, arith}
 use Rattle.ame_journal.specs.Replayed.{side_at}
 use Rattle.ame_journal.specs.Totals.{is_note}
 use Rattle.ame_journal.specs.declared.entry.EntryKind.{EntryKind}
 use Rattle.ame_check.specs.Reasons.{is_shut}
-use Rattle.ame_check.specs.Walked.{IsWalking}
-use Rattle.ame_check.proofs.StandingLemmas.{watching-told}
+use Rattle.ame_check.proofs.StopLemmas.{err-as}
 use Rattle.ame_check.proofs.RanEntries.{quiet-of}
-use Rattle.ame_check.proofs.NoteEntries.{copy-good, copy-steps, copy-runs, begins-note, stands-there}
+use Rattle.ame_check.proofs.NoteEntries.{copy-good, copy-steps, copy-runs, begins-note, noted-answer, noted-none, noted-stopped, stands-there}
 use Rattle.ame_check.proofs.replay.Replay.stand.Goals as goal
 
 pub advance-requires-clause-machine : goal.advance-requires-clause-machine
@@ -28,13 +27,19 @@ advance-requires-clause-steps g c =
     (g.met.M.Runner.stage_shown c.args.code.now c.in-Some.member.now c.in_ok-machine.machine c.in_ok-machine.ensures) in
     omega arith
 
+pub returns-then-is_some-clause-halted : goal.returns-then-is_some-clause-halted
+returns-then-is_some-clause-halted g c = λ entries st.
+    noted-answer g.M.Runner.meaning c.args.code.now (g.met.M.Runner.accepted c.args.code.now) (g.met.M.Runner.sound c.args.code.now) c.args.entry.now (ap is_note c.requires.kind) _ entries st (sym c.is_some.ensures ∙ c.if-is_some.true)
+
+pub returns-in_default-clause-halted : goal.returns-in_default-clause-halted
+returns-in_default-clause-halted g c = λ entries st.
+    noted-none g.M.Runner.meaning c.args.code.now (g.met.M.Runner.accepted c.args.code.now) (g.met.M.Runner.sound c.args.code.now) c.args.entry.now (ap is_note c.requires.kind) _ entries st (quiet-of c.args.entry.now.answer (sym c.is_some.ensures ∙ c.if-is_some.false)) c.in_default.ensures.value
+
 pub watch-requires-clause-walking : goal.watch-requires-clause-walking
 watch-requires-clause-walking g c = (
   c.requires.stands.1.led.state,
   c.args.entry.now.number,
-  subst (λ (xs : List ℕ). IsWalking g.M.Runner.meaning c.args.code.now c.requires.stands.1.led.state c.args.entry.now.number xs c.args.self.now.cells.entries c.new-overlay.result.entries c.settle.new.self)
-      c.as_slice-fresh.ensures
-      (begins-note g.M.Runner.meaning c.args.code.now (g.met.M.Runner.accepted c.args.code.now) (g.met.M.Runner.sound c.args.code.now) c.args.entry.now (ap is_note c.requires.kind) _ c.requires.stands.0 c.requires.stands.1 (quiet-of c.args.entry.now.answer (sym c.is_some.ensures ∙ c.if-is_some.false))
+  (begins-note g.M.Runner.meaning c.args.code.now (g.met.M.Runner.accepted c.args.code.now) (g.met.M.Runner.sound c.args.code.now) c.args.entry.now (ap is_note c.requires.kind) _ c.requires.stands.0 c.requires.stands.1 (quiet-of c.args.entry.now.answer (sym c.is_some.ensures ∙ c.if-is_some.false))
       c.in-Some.member.now c.in-Some.ensures.value c.in_ok-machine.machine (g.met.M.Runner.same_machines c.args.code.now c.in-Some.member.now c.in_ok-machine.machine c.in_ok-machine.ensures)
       (g.met.M.Runner.stage_shown c.args.code.now c.in-Some.member.now c.in_ok-machine.machine c.in_ok-machine.ensures)
       c.advance.new.self c.advance.ensures.machine c.advance.ensures.ran c.in_ok-_next._next c.in_ok-_next.ensures.told c.settle.new.self
@@ -48,9 +53,7 @@ run-requires-clause-walking g c =
     (g.met.M.Runner.stage_shown c.args.code.now c.in-Some.member.now c.in_ok-machine.machine c.in_ok-machine.ensures)
     c.advance.new.self c.advance.ensures.machine c.advance.ensures.ran c.in_ok-_next._next c.in_ok-_next.ensures.told c.settle.new.self
     (c.settle.ensures.machine c.args.code.now c.advance.ensures.machine) (c.settle.ensures.stage c.args.code.now) c.new-overlay.result.entries c.new-overlay.ensures.empty in
-    let watched = watching-told g.M.Runner.meaning c.args.code.now c.args.self.now.cells.entries c.new-overlay.result.entries c.watch.new.overlay.entries c.settle.new.self c.watch.new.machine c.args.entry.now.steps
-    (λ z. z.entries) c.in_ok-reads.field-0 c.in-Some-2.reads c.args.entry.now.fresh (map (λ z. z.0) c.as_slice-fresh.result.now) c.in-Some-2.is c.as_slice-fresh.ensures c.in_ok-reads.ensures in
-    (c.requires.stands.1.led.state, c.args.entry.now.number, (watched c.requires.stands.1.led.state c.args.entry.now.number _ 0 begun).stands.walking)
+    (c.requires.stands.1.led.state, c.args.entry.now.number, (c.in_ok-reads.ensures.watched c.requires.stands.1.led.state c.args.entry.now.number _ 0 begun).stands.walking)
 
 pub run-requires-clause-below : goal.run-requires-clause-below
 run-requires-clause-below g c =
@@ -59,27 +62,47 @@ run-requires-clause-below g c =
     (g.met.M.Runner.stage_shown c.args.code.now c.in-Some.member.now c.in_ok-machine.machine c.in_ok-machine.ensures)
     c.advance.new.self c.advance.ensures.machine c.advance.ensures.ran c.in_ok-_next._next c.in_ok-_next.ensures.told c.settle.new.self
     (c.settle.ensures.machine c.args.code.now c.advance.ensures.machine) (c.settle.ensures.stage c.args.code.now) c.new-overlay.result.entries c.new-overlay.ensures.empty in
-    let watched = watching-told g.M.Runner.meaning c.args.code.now c.args.self.now.cells.entries c.new-overlay.result.entries c.watch.new.overlay.entries c.settle.new.self c.watch.new.machine c.args.entry.now.steps
-    (λ z. z.entries) c.in_ok-reads.field-0 c.in-Some-2.reads c.args.entry.now.fresh (map (λ z. z.0) c.as_slice-fresh.result.now) c.in-Some-2.is c.as_slice-fresh.ensures c.in_ok-reads.ensures in
-    let here = watched c.requires.stands.1.led.state c.args.entry.now.number _ 0 begun in
+    let here = c.in_ok-reads.ensures.watched c.requires.stands.1.led.state c.args.entry.now.number _ 0 begun in
     let few : here.made ≤ c.args.entry.now.steps = here.few in
     let counted : (g.M.Runner.meaning.stage c.args.code.now c.watch.new.machine).steps ≡ here.made = here.stands.counted in
     omega arith
 
-pub returns-in-Whole : goal.returns-in-Whole
-returns-in-Whole g c = λ entries st.
+pub returns-in_err-reads-clause-halted : goal.returns-in_err-reads-clause-halted
+returns-in_err-reads-clause-halted g c =
+    err-as c.from_residual-in_err-reads.result c.in_err-reads.field-0.0 _ c.from_residual-in_err-reads.ensures.1
+    (λ entries st.
+    noted-stopped g.M.Runner.meaning c.args.code.now (g.met.M.Runner.accepted c.args.code.now) (g.met.M.Runner.sound c.args.code.now) c.args.entry.now (ap is_note c.requires.kind) _ entries st (quiet-of c.args.entry.now.answer (sym c.is_some.ensures ∙ c.if-is_some.false))
+    c.in-Some.member.now c.in-Some.ensures.value c.in_ok-machine.machine (g.met.M.Runner.same_machines c.args.code.now c.in-Some.member.now c.in_ok-machine.machine c.in_ok-machine.ensures)
+    (g.met.M.Runner.stage_shown c.args.code.now c.in-Some.member.now c.in_ok-machine.machine c.in_ok-machine.ensures)
+    c.advance.new.self c.advance.ensures.machine c.advance.ensures.ran c.in_ok-_next._next c.in_ok-_next.ensures.told c.settle.new.self
+    (c.settle.ensures.machine c.args.code.now c.advance.ensures.machine) (c.settle.ensures.stage c.args.code.now) c.new-overlay.result.entries c.new-overlay.ensures.empty
+    (ap (λ (k : EntryKind). is_shut k (g.M.Runner.meaning.stage c.args.code.now c.settle.new.self).inside) c.requires.kind) c.in_err-reads.field-0.0 c.in_err-reads.ensures.halted)
+
+pub returns-in_err-want-clause-halted : goal.returns-in_err-want-clause-halted
+returns-in_err-want-clause-halted g c =
+    err-as c.from_residual-in_err-want.result c.in_err-want.field-0.0 _ c.from_residual-in_err-want.ensures.1
+    (λ entries st.
+    noted-stopped g.M.Runner.meaning c.args.code.now (g.met.M.Runner.accepted c.args.code.now) (g.met.M.Runner.sound c.args.code.now) c.args.entry.now (ap is_note c.requires.kind) _ entries st (quiet-of c.args.entry.now.answer (sym c.is_some.ensures ∙ c.if-is_some.false))
+    c.in-Some.member.now c.in-Some.ensures.value c.in_ok-machine.machine (g.met.M.Runner.same_machines c.args.code.now c.in-Some.member.now c.in_ok-machine.machine c.in_ok-machine.ensures)
+    (g.met.M.Runner.stage_shown c.args.code.now c.in-Some.member.now c.in_ok-machine.machine c.in_ok-machine.ensures)
+    c.advance.new.self c.advance.ensures.machine c.advance.ensures.ran c.in_ok-_next._next c.in_ok-_next.ensures.told c.settle.new.self
+    (c.settle.ensures.machine c.args.code.now c.advance.ensures.machine) (c.settle.ensures.stage c.args.code.now) c.new-overlay.result.entries c.new-overlay.ensures.empty
+    (ap (λ (k : EntryKind). is_shut k (g.M.Runner.meaning.stage c.args.code.now c.settle.new.self).inside) c.requires.kind) c.in_err-want.field-0.0
+    (λ s i side n a. let here = c.in_ok-reads.ensures.watched s i side n a in c.in_err-want.ensures.halted s i side here.made here.stands))
+
+pub returns-clause-there : goal.returns-clause-there
+returns-clause-there g c = λ entries st.
     let begun = begins-note g.M.Runner.meaning c.args.code.now (g.met.M.Runner.accepted c.args.code.now) (g.met.M.Runner.sound c.args.code.now) c.args.entry.now (ap is_note c.requires.kind) _ entries st (quiet-of c.args.entry.now.answer (sym c.is_some.ensures ∙ c.if-is_some.false))
     c.in-Some.member.now c.in-Some.ensures.value c.in_ok-machine.machine (g.met.M.Runner.same_machines c.args.code.now c.in-Some.member.now c.in_ok-machine.machine c.in_ok-machine.ensures)
     (g.met.M.Runner.stage_shown c.args.code.now c.in-Some.member.now c.in_ok-machine.machine c.in_ok-machine.ensures)
     c.advance.new.self c.advance.ensures.machine c.advance.ensures.ran c.in_ok-_next._next c.in_ok-_next.ensures.told c.settle.new.self
     (c.settle.ensures.machine c.args.code.now c.advance.ensures.machine) (c.settle.ensures.stage c.args.code.now) c.new-overlay.result.entries c.new-overlay.ensures.empty in
-    let watched = watching-told g.M.Runner.meaning c.args.code.now c.args.self.now.cells.entries c.new-overlay.result.entries c.watch.new.overlay.entries c.settle.new.self c.watch.new.machine c.args.entry.now.steps
-    (λ z. z.entries) c.in_ok-reads.field-0 c.in-Some-2.reads c.args.entry.now.fresh (map (λ z. z.0) c.as_slice-fresh.result.now) c.in-Some-2.is c.as_slice-fresh.ensures c.in_ok-reads.ensures in
+    let watched = c.in_ok-reads.ensures.watched st.led.state c.args.entry.now.number (side_at c.args.entry.now.number st.led.state) 0 begun in
     stands-there g.M.Runner.meaning c.args.code.now (g.met.M.Runner.accepted c.args.code.now) (g.met.M.Runner.sound c.args.code.now) c.args.entry.now (ap is_note c.requires.kind) _ entries st (quiet-of c.args.entry.now.answer (sym c.is_some.ensures ∙ c.if-is_some.false))
     c.in-Some.member.now c.in-Some.ensures.value c.in_ok-machine.machine (g.met.M.Runner.same_machines c.args.code.now c.in-Some.member.now c.in_ok-machine.machine c.in_ok-machine.ensures)
     (g.met.M.Runner.stage_shown c.args.code.now c.in-Some.member.now c.in_ok-machine.machine c.in_ok-machine.ensures)
     c.advance.new.self c.advance.ensures.machine c.advance.ensures.ran c.in_ok-_next._next c.in_ok-_next.ensures.told c.settle.new.self
     (c.settle.ensures.machine c.args.code.now c.advance.ensures.machine) (c.settle.ensures.stage c.args.code.now) c.new-overlay.result.entries c.new-overlay.ensures.empty
-    (ap (λ (k : EntryKind). is_shut k (g.M.Runner.meaning.stage c.args.code.now c.settle.new.self).inside) c.requires.kind) c.run.new.overlay.entries c.run.new.machine c.in_ok-want.field-0
-    (λ s i side n a. let here = watched s i side n a in c.in_ok-want.ensures s i side here.made here.stands) c.in-Whole.want c.in-Whole.is c.in-Some-2.reads.entries
-    (watched st.led.state c.args.entry.now.number (side_at c.args.entry.now.number st.led.state) 0 begun).told
+    (ap (λ (k : EntryKind). is_shut k (g.M.Runner.meaning.stage c.args.code.now c.settle.new.self).inside) c.requires.kind) c.run.new.overlay.entries c.run.new.machine c.in_ok-want.want
+    (λ s i side n a. let here = c.in_ok-reads.ensures.watched s i side n a in c.in_ok-want.ensures.whole s i side here.made here.stands) c.in_ok-reads.reads.entries
+    watched.told watched.each

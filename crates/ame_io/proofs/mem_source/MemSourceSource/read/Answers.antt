@@ -1,4 +1,4 @@
--- What a read moves to the buffer is the front of what was left.
+-- A read moves the first of the bytes that were left to the buffer.
 use Rattle.std.proofs.Common.{◌≡◌, drop, length, arith}
 use Rattle.std.proofs.lemmas.Grind.{common_steps}
 use Rattle.ame_io.proofs.ReadsLemmas.{read-front, read-end}

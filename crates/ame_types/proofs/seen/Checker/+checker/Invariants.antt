@@ -55,9 +55,9 @@ decreases-pair l = 4 * (nodes (tree_of l.first.now) + nodes (tree_of l.second.no
 abbrev pub invariant-sequence-loop-rest : goal.invariant-sequence-loop-rest
 invariant-sequence-loop-rest l = record {
   walk :
-      Left l.self.devices (slice_index l.self.places.now) (scope_of l.scope) (names_of l.scope) l.q
+      Left l.self.devices (slice_index l.self.places.now) (scope_of l.site.scope.now) (names_of l.site.scope.now) l.site.effect
       (l.fn.seen.next + 1) (map shared_type l.fn.seen.ref_tys.items) l.parts l.seen.next (map shared_type l.seen.ref_tys.items) l.rest;
-  listed : AreListed l.seen.types.keys.keys l.scope;
+  listed : AreListed l.seen.types.keys.keys l.site.scope.now;
 }
 
 abbrev pub decreases-sequence-loop-rest : goal.decreases-sequence-loop-rest

@@ -1,4 +1,4 @@
--- What a seat that counts may give, and what it then knows.
+-- A seat that counts: what it may give, and what it then knows.
 use Rattle.std.proofs.Common.{◌≡◌, ℕ, List, [], ◌∷◌, ◌++◌, length, set, Option, Some, Result, Ok, Err, OnOk, OnErr, slice_get, sym, refl, ap, ◌∙◌}
 use Rattle.std.proofs.lemmas.List.{append-nil, map-id, length-set}
 use Rattle.std.proofs.lemmas.List.Elements.{All-nil, All-cons}
@@ -43,7 +43,7 @@ module _ (before k : Known) (t t' : Tally) (taken : Takes TallyStandsFor own bef
   gave_row leaves after given is = row_kept TallyStandsFor own leaves (λ r. r) (λ t. t.last.items) (λ t f rows entries h. sym h.1 ∙ sym (map-id rows)) before k after t t' taken given
       (ap (λ l. slice_get l before.number) is)
 
--- at the end a seat that left so many entries of its own is in the log so often
+-- at the end a seat is in the log as often as it left entries of its own
 pub counted_at_end : (fixed : Option ℕ) (seats : List (LastSeen ℕ ℕ)) (t : Tally) (n times : ℕ) (it : LastSeen ℕ ℕ) → HasEnded TallyStandsFor 0 own fixed seats t → slice_get seats n ≡ Some it → length it.own ≡ times → times_of n t ≡ times
 counted_at_end fixed seats t n times it e at is =
     let log : e.entries ≡ t.log.items = and_of (λ f. TallyStandsFor t f e.rows e.entries) (e.entries ≡ t.log.items) fixed (λ f h. h.2) e.stands in

@@ -1,4 +1,4 @@
--- What a seat keeps when it takes the turn and gives it, and which rows there are at the end: for callers.
+-- A seat's row and entries when it takes the turn and gives it, and the rows at the end: for callers.
 use Rattle.std.proofs.Common.{◌≡◌, ℕ, ◌<◌, ◌≤◌, List, ◌++◌, length, map, set, Option, Some, slice_get, option_map, sym, ap, ◌∙◌, inl, inr, ⊎_elim, subst}
 use Rattle.std.proofs.lemmas.Bool.{cases_lt}
 use Rattle.std.proofs.lemmas.List.{append_cancel_left}
@@ -63,7 +63,7 @@ module _ {S F R E : Type 0} (stands_for : S → F → List R → List E → Type
       own = ap (λ (k : Knows F R E). k.own) same;
     }
 
-    -- where the state determines its entries
+    -- if the state determines its entries
     pub entries_given : (entries_in : S → List E) → ShowsEntries stands_for entries_in → (before holding after : Knows F R E) (taken given : S) → Takes stands_for seat_of before taken holding
         → Gives stands_for seat_of leaves holding given after → (added : List E) → entries_in given ≡ entries_in taken ++ added → after.own ≡ before.own ++ added
     entries_given entries_in shows before holding after taken given t g added is =
@@ -75,7 +75,7 @@ module _ {S F R E : Type 0} (stands_for : S → F → List R → List E → Type
         let same : it.added ≡ added = append_cancel_left holding.seen it.added added (sym now ∙ (is ∙ ap (λ l. l ++ added) seen)) in
         ap (λ (k : Knows F R E). k.own) g.1 ∙ (ap (λ l. holding.own ++ l) same ∙ ap (λ (k : Knows F R E). k.own ++ added) t.rest)
 
-    -- where the state determines what its rows show
+    -- if the state determines what its rows show
     module _ {T : Type 0} (shown : R → T) (rows_in : S → List T) (shows : ShowsRows stands_for shown rows_in) (before holding after : Knows F R E) (taken given : S)
         (t : Takes stands_for seat_of before taken holding) (g : Gives stands_for seat_of leaves holding given after) where
       rows_taken : rows_in taken ≡ map shown holding.rows

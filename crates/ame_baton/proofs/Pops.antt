@@ -1,4 +1,4 @@
--- A pop keeps the rule, and tells the seat what it has.
+-- A pop keeps the rule, and gives the seat its knowledge.
 use Rattle.std.proofs.Common.{◌≡◌, ◌≢◌, ℕ, ◌+◌, ◌<◌, ◌≤◌, true, false, List, [], ◌∷◌, length, set, Option, Some, None, IsSome, IsSomeAnd, slice_get, sym, refl, ap, ◌∙◌, inr, ⊎_elim, subst, arith, length-set}
 use mathlib.Core.Option.{some, some-injective}
 use lib.ListN.{get_elem?}

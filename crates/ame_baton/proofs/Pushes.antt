@@ -41,7 +41,7 @@ module _ {S F R E : Type 0} (stands_for : S → F → List R → List E → Type
   untouched_given t v row added rows seen all n ne u = untouched_else seat_of empty v.number n v.rows v.seen row added ne all
       (subst (λ (y : List R × List E). IsUntouched empty seat_of n y.0 y.1) (λ i. (sym rows i, sym seen i)) u)
 
-  -- another seat's view agrees still, where only rows and entries changed
+  -- another seat's view agrees still, if only rows and entries changed
   fits_given : (t t' : Truth F R E) (j : ℕ) (u : Knows F R E) → t.fixed ≡ t'.fixed → t.made ≡ t'.made → t.ended ≡ t'.ended → length t.rows ≡ length t'.rows
       → (Stays seat_of j (left_by u) t.rows t.entries → Stays seat_of j (left_by u) t'.rows t'.entries) → KnowsTruth seat_of t j u → KnowsTruth seat_of t' j u
   fits_given t t' j u fixed made ended long stays fits = let ends : length t.ended ≡ length t'.ended = ap length ended in

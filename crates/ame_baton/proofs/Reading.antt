@@ -1,4 +1,4 @@
--- How a seat reads the rule.
+-- The rule, as a seat reads it.
 use Rattle.std.proofs.Common.{◌≡◌, ◌≢◌, ◌⊎◌, ℕ, zero, suc, ◌<◌, ◌≤◌, Bool, true, false, true≢false, List, [], ◌∷◌, length, Option, None, IsSome, is_some, sym, refl, ap, ◌∙◌, ⊎_elim}
 use mathlib.Core.Option.{some, some-injective, some-ne-none}
 use lib.ListN.{get_elem?}
@@ -29,7 +29,7 @@ module _ {S F R E : Type 0} (stands_for : S → F → List R → List E → Type
   only_nothing zero v is at = not_none v.fixed is (sym (ap (λ (k : Knows F R E). k.fixed) (some-injective (nothing_known empty) v at)))
   only_nothing (suc port) v is at = some-ne-none v (sym at)
 
-  -- where there is a seat, the turn was opened
+  -- if there is a seat, the turn was opened
   pub opened : (items : List S) (views : List (Knows F R E)) (port : ℕ) (v : Knows F R E) → IsSome v.fixed → Rule items views → get_elem? views port ≡ some v → (t : Truth F R E) × Open t items views
   opened items views port v is h at = ⊎_elim (λ (x : (items ≡ []) × (views ≡ nothing_known empty ∷ [])). absurd (only_nothing port v is (sym (ap (λ l. get_elem? l port) x.1) ∙ at)))
       (λ (x : (t : Truth F R E) × Open t items views). x) h

@@ -1,4 +1,4 @@
--- What was left under one number, where another seat or the same one writes its row and adds entries.
+-- The row and entries left under one number, if another seat or the same one writes its row and adds entries.
 use Rattle.std.proofs.Common.{◌≡◌, ◌≢◌, ℕ, ◌<◌, ◌==◌, eq-eqb, ne_eqb, List, [], ◌∷◌, ◌++◌, length, All, set, sym, refl, ap, ◌∙◌}
 use Rattle.std.proofs.lemmas.List.{append-nil, append_cancel_left}
 use mathlib.Core.List.{IsPrefix}
@@ -39,7 +39,7 @@ module _ {E : Type 0} (seat_of : E → ℕ) where
   entries_here n entries own added all is =
       filter-append (λ e. seat_of e == n) entries added ∙ (ap (λ w. w ++ entries_by seat_of n added) is ∙ ap (λ w. own ++ w) (entries_own n added all))
 
-  -- where no entry is of a number, none was before
+  -- if no entry is of a number, none was before
   pub entries_before : (n : ℕ) (seen entries : List E) → IsPrefix seen entries → entries_by seat_of n entries ≡ [] → entries_by seat_of n seen ≡ []
   entries_before n seen entries goes none =
       none_first (entries_by seat_of n seen) (entries_by seat_of n goes.0)

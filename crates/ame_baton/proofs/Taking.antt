@@ -1,4 +1,4 @@
--- What a seat that took the turn knows, and what it may give: for callers.
+-- A seat that took the turn: what it knows, and what it may give: for callers.
 use Rattle.std.proofs.Common.{◌≡◌, ℕ, zero, suc, List, [], ◌∷◌, ◌++◌, set, All, Option, Some, None, IsSomeAnd, slice_get, sym, refl, ap, ◌∙◌, subst}
 use Rattle.ame_baton.specs.declared.view.Knows.{Knows}
 use Rattle.ame_baton.specs.Seats.{Takes, MayGive}

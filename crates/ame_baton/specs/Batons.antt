@@ -1,4 +1,4 @@
--- What a clause says of a baton and of its seats.
+-- A baton and its seats, as clauses speak of them.
 use Rattle.std.specs.Prelude.{◌≡◌, ℕ, ◌+◌, false, List, Some, map, slice_get}
 use Rattle.crossbeam_queue.specs.Passes.{view, IsPassOf}
 use Rattle.ame_baton.specs.declared.view.Knows.{Knows}

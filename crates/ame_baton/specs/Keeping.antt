@@ -1,4 +1,4 @@
--- What a seat keeps when it takes the turn and gives it, and which rows there are at the end.
+-- A seat's row and entries when it takes the turn and gives it, and the rows at the end.
 use Rattle.std.specs.Prelude.{◌≡◌, ◌≢◌, ℕ, ◌≤◌, ◌⊎◌, true, false, List, ◌++◌, length, map, All, Some, slice_get}
 use mathlib.Core.List.{IsPrefix}
 use Rattle.ame_baton.specs.declared.view.Knows.{Knows}
@@ -13,7 +13,7 @@ pub record KeepsSeat {F R E : Type 0} (before after : Knows F R E) : Type 0 wher
   pub made : after.made ≡ before.made
   pub ended : after.ended ≡ before.ended
 
--- the seat took the turn, and finds its row and its entries as it left them; what other seats added meanwhile is behind those that it had seen
+-- the seat took the turn, and finds its row and its entries as it left them; what other seats added meanwhile comes after those that it had seen
 pub record FindsAsLeft {F R E : Type 0} (seat_of : E → ℕ) (before after : Knows F R E) : Type 0 where
   pub keeps : KeepsSeat before after
   pub holds : after.holds ≡ true
@@ -26,7 +26,7 @@ pub record FindsAsLeft {F R E : Type 0} (seat_of : E → ℕ) (before after : Kn
   pub seen : after.seen ≡ before.seen ++ others
   pub apart : All (λ e. seat_of e ≢ before.number) others
 
--- the seat gave the turn: its row is one that it may leave, and behind the entries are new ones of its own
+-- the seat gave the turn: its row is one that it may leave, and after the entries come new ones of its own
 pub record HasGiven {F R E : Type 0} (seat_of : E → ℕ) (leaves : R → Type 0) (before after : Knows F R E) : Type 0 where
   pub keeps : KeepsSeat before after
   pub free : after.holds ≡ false
@@ -46,6 +46,6 @@ abbrev pub ShowsEntries : {S F R E : Type 0} → (S → F → List R → List E 
 ShowsEntries {S} {F} {R} {E} stands_for entries_in =
     (state : S) (fixed : F) (rows : List R) (entries : List E) → stands_for state fixed rows entries → entries_in state ≡ entries
 
--- the row is the one that the seat with this number left, or the empty one where there was no such seat
+-- the row is the one that the seat with this number left, or the empty one if there was no such seat
 abbrev pub IsLeftOrEmpty : {R E : Type 0} → R → List (LastSeen R E) → ℕ → R → Type 0
 IsLeftOrEmpty {R} {E} empty seats n row = ((it : LastSeen R E) × (slice_get seats n ≡ Some it) × (row ≡ it.row)) ⊎ ((length seats ≤ n) × (row ≡ empty))

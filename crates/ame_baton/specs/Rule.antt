@@ -74,7 +74,7 @@ Turns {F = F} {R = R} {E = E} stands_for empty seat_of items views =
     ((items ≡ []) × (views ≡ nothing_known empty ∷ []))
     ⊎ ((truth : Truth F R E) × IsOpen stands_for empty seat_of truth items views)
 
--- ---- what the first seat is told
+-- ---- what the first seat knows of the others
 -- what the seats left that have joined this one is there, and no number is used that it has not given to a seat
 pub record OthersStay {F R E : Type 0} (empty : R) (seat_of : E → ℕ) (first : Knows F R E) (rows : List R) (entries : List E) : Type 0 where
   pub ended : (i : ℕ) (it : LastSeen R E) → slice_get first.ended i ≡ Some it → Stays seat_of (i + 1) it rows entries
@@ -86,7 +86,7 @@ pub record Popped {S F R E : Type 0} (stands_for : S → F → List R → List E
   pub takes : Takes stands_for seat_of before state after
   pub others : before.number ≡ 0 → OthersStay empty seat_of before after.rows after.seen
 
--- seat 0, where it doesn't hold the turn
+-- seat 0, if it doesn't hold the turn
 pub record IsFirst {F R E : Type 0} (k : Knows F R E) : Type 0 where
   pub seated : IsSome k.fixed
   pub numbered : k.number ≡ 0

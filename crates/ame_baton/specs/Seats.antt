@@ -1,4 +1,4 @@
--- What a seat knows, and what it may say of the state when it takes the turn, gives it and ends.
+-- The knowledge of a seat, and what it may say of the state when it takes the turn, gives it and ends.
 use Rattle.std.specs.Prelude.{◌≡◌, ◌≢◌, ℕ, ◌<◌, ◌≤◌, ◌==◌, true, false, List, [], ◌++◌, length, filter, All, Option, Some, IsSomeAnd, slice_get, slice_set}
 use mathlib.Core.List.{IsPrefix}
 use Rattle.ame_baton.specs.declared.view.Knows.{Knows}
@@ -12,7 +12,7 @@ entries_by seat_of number entries = filter (λ e. seat_of e == number) entries
 abbrev pub left_by : {F R E : Type 0} → Knows F R E → LastSeen R E
 left_by k = record { row = k.row; seen = k.seen; own = k.own }
 
--- What was left under a number is there: its row is the row that was left, the entries go on from those that were seen,
+-- The row and entries left under a number are there: its row is the row that was left, the entries go on from those that were seen,
 -- and the entries of that number are its own, each once and in order. All of these were seen.
 pub record Stays {R E : Type 0} (seat_of : E → ℕ) (number : ℕ) (it : LastSeen R E) (rows : List R) (entries : List E) : Type 0 where
   pub row : slice_get rows number ≡ Some it.row
@@ -25,7 +25,7 @@ pub record IsUntouched {R E : Type 0} (empty : R) (seat_of : E → ℕ) (number 
   pub row : (r : R) → slice_get rows number ≡ Some r → r ≡ empty
   pub none : entries_by seat_of number entries ≡ []
 
--- seat 0 of a baton for so many seats, as it is made
+-- seat 0 of a baton for this number of seats, as it is made
 abbrev pub first_seat : {F R E : Type 0} → F → ℕ → R → Knows F R E
 first_seat fixed seats empty = record {
   number = 0;

@@ -1,9 +1,9 @@
--- What a clause says of a tally.
+-- A tally, as clauses speak of it.
 use Rattle.std.specs.Prelude.{◌≡◌, ℕ, ◌==◌, List, ◌∷◌, [], ◌++◌, length, filter, slice_set}
 use Rattle.ame_baton.specs.declared.view.Knows.{Knows}
 use Rattle.ame_baton.specs.declared.tally.Tally.{Tally}
 
--- the tally is for so many seats; the rows say when each seat counted last, and the entries are who counted
+-- the tally is for this number of seats; the rows say when each seat counted last, and the entries are who counted
 abbrev pub TallyStandsFor : Tally → ℕ → List ℕ → List ℕ → Type 0
 TallyStandsFor t seats rows entries = (length t.last.items ≡ seats) × (rows ≡ t.last.items) × (entries ≡ t.log.items)
 

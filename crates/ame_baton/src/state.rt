@@ -1,4 +1,4 @@
-//! What a state must tell of itself to be passed from seat to seat.
+//! The parts of a state that is passed from seat to seat.
 ghost use Rattle.std.specs.Prelude.{ℕ, List};
 
 /// The most seats that may share a state.
@@ -6,9 +6,9 @@ pub const SEAT_LIMIT: u32 = 32;
 
 /// A shared state with a row for each seat and a list of entries, each of one seat.
 pub trait Rowed {
-    /// What never changes from the opening on.
+    /// The part that never changes from the opening on.
     type Fixed;
-    /// What the state keeps for one seat.
+    /// The row that the state keeps for one seat.
     type Row;
     /// One thing that a seat did.
     type Entry;
@@ -19,7 +19,7 @@ pub trait Rowed {
     /// The fixed part of a state that is about to be shared.
     ghost opening: { Self → Self.Fixed };
 
-    /// How many seats share a state with this fixed part.
+    /// The number of seats that share a state with this fixed part.
     ghost seats_in: { Self.Fixed → ℕ };
 
     /// The row of a seat that did nothing.
@@ -35,7 +35,7 @@ pub trait Leaves<R> {
     ghost leaves: { R → Type 0 };
 }
 
-/// Any row, where the state itself shows it whole.
+/// Any row, if the state itself shows it whole.
 pub struct AnyRow;
 
 impl<R> Leaves<R> for AnyRow {

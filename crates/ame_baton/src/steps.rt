@@ -4,7 +4,7 @@ use crate::view::Knows;
 use crossbeam_queue::protocol::{Join, Lesson, Outcome, Protocol, Split};
 use std::marker::PhantomData;
 
-/// What the seats of a shared state know.
+/// The knowledge of the seats of a shared state.
 pub(crate) type View<S> = Knows<<S as Rowed>::Fixed, <S as Rowed>::Row, <S as Rowed>::Entry>;
 
 /// The turn is in one place: in the queue, or with one seat.

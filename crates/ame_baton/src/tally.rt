@@ -18,7 +18,7 @@ use std::thread::Threads;
 pub struct Tally {
     /// For each seat the count at which it counted last, or 0.
     pub last: Vec<usize>,
-    /// Who counted, from the first count on.
+    /// The seats that counted, from the first count on.
     pub log: Vec<u32>,
 }
 
@@ -89,7 +89,7 @@ pub fn count<R: Wait>(
     counted
 }
 
-/// Counts so many times, and takes the turn anew each time.
+/// Counts this many times, and takes the turn anew each time.
 pub fn count_all<R: Wait>(
     rt: &R,
     baton: &Baton<Tally>,
@@ -109,7 +109,7 @@ pub fn count_all<R: Wait>(
     Ok(seat)
 }
 
-/// Two seats count in two threads, each so many times, and each is in the log as often as it counted.
+/// Lets two seats count in two threads, each this many times. Each is in the log as often as it counted.
 pub fn count_by_two<R: Threads + Wait + Sync>(
     rt: &R,
     alloc: Global,

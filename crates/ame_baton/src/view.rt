@@ -1,7 +1,7 @@
-//! What a seat knows. No value of these types is made: contracts and proofs alone speak of them.
+//! The knowledge of a seat. No value of these types is made: only contracts and proofs speak of them.
 use std::collections::LinkedList;
 
-/// What a seat knows: its part of the state, and where the turn is.
+/// The knowledge of a seat: its part of the state, and the place of the turn.
 pub struct Knows<F, R, E> {
     pub number: u32,
     /// `None` before the opening and after the end.
@@ -14,15 +14,15 @@ pub struct Knows<F, R, E> {
     pub holds: bool,
     /// The rows as taken, while it holds the turn.
     pub rows: LinkedList<R>,
-    /// How many seats there can be.
+    /// The number of seats that there can be.
     pub seats: u32,
-    /// How many seats the first one has made, itself among them. It is 0 for the others.
+    /// The number of seats that the first one has made, itself among them. It is 0 for the others.
     pub made: u32,
-    /// What the seats 1, 2 and so on left that have joined the first one.
+    /// The parts that the seats 1, 2 and so on left that have joined the first one.
     pub ended: LinkedList<LastSeen<R, E>>,
 }
 
-/// What a seat leaves behind.
+/// The part that a seat leaves.
 pub struct LastSeen<R, E> {
     pub row: R,
     pub seen: LinkedList<E>,

@@ -1,4 +1,4 @@
--- What one word does to clap's walk over the words behind the first.
+-- One step of clap's walk over the words after the first.
 use Rattle.std.proofs.Common.{◌≡◌, Bool, true, false, cond, List, [], ◌∷◌, ◌++◌, Option, Some, None, refl, ap, ◌∙◌, codes, map}
 use Rattle.std.specs.Prelude.{option_map, ◌||◌}
 use Rattle.std.specs.List.{find}
@@ -194,7 +194,7 @@ long_walked rows mode word name v item dash lo is =
     ∙ ap (λ o. stepped rows mode word (after_flag built_rules (state_in mode) word (long_met built_rules o v (held_in rows mode)).0 (long_met built_rules o v (held_in rows mode)).1)) (by_long all_items name ∙ ap (option_map built_option) is)
     ∙ long_found rows mode word item v
 
--- what is pending is a fault where it is an option without its value
+-- a pending option without its value is a fault
 abbrev pub waiting_fault : Option Item → Kinds
 waiting_fault None = []
 waiting_fault (Some item) = InvalidValue ∷ []

@@ -1,4 +1,4 @@
--- clap's walk over the words behind the first finds the parts that they are, or has a fault.
+-- clap's walk over the words after the first finds the parts that they are, or has a fault.
 use Rattle.std.proofs.Common.{◌≡◌, ◌≢◌, Bool, true, false, cond, List, [], ◌∷◌, ◌++◌, Option, Some, None, refl, sym, ap, ap₂, ◌∙◌, subst, codes, append-nil, append_assoc}
 use Rattle.std.specs.Prelude.{option_map, option_and_then}
 use Rattle.std.specs.List.{fold}
@@ -146,7 +146,7 @@ walk_faults verb rows mode words = or_else (walk_fault (built_verb verb) [] (wal
 abbrev pub end_rows : List Row → Mode → List Word → List Row
 end_rows rows mode words = (settled built_rules (end_of rows mode words).held).rows
 
--- the walk has a fault where the words can't be read, and else finds what the parts give
+-- the walk has a fault if the words can't be read, and otherwise finds what the parts give
 abbrev pub Walks : Verb → List Row → Mode → List Word → Option (List Part) → Type 0
 Walks verb rows mode words None = walk_faults verb rows mode words ≢ []
 Walks verb rows mode words (Some parts) = (walk_faults verb rows mode words ≡ []) × Adds (rows_in rows mode) (end_rows rows mode words) parts

@@ -21,7 +21,7 @@ use Rattle.ame_cli.proofs.ClapWalk.{Classes}
 
 -- ---- what a long word is
 
--- what stands behind the name
+-- the rest of a text after the name
 abbrev pub behind_name : Option Word → Word
 behind_name None = []
 behind_name (Some value) = 61 ∷ value
@@ -34,7 +34,7 @@ stripped c (x ∷ xs) rest e = go (x == c) refl e
     go true same f = ap₂ (λ a l. a ∷ l) (eqb-true x c same) (cc f)
     go false same f = cc
 
--- a text is its name and what stands behind it
+-- a text is its name and the rest after it
 split_text : (text : Word) → text ≡ (name_and_value text).0 ++ behind_name (name_and_value text).1
 split_text [] = refl
 split_text (x ∷ xs) = go (split_text xs) (x == 61) refl

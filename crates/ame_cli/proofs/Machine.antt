@@ -1,4 +1,4 @@
--- Reading the words behind the first, one by one.
+-- Reading the words after the first, one by one.
 use Rattle.std.proofs.Common.{◌≡◌, List, [], ◌∷◌, ◌++◌, Option, Some, None}
 use Rattle.std.specs.Prelude.{option_map, option_and_then}
 use Rattle.std.specs.List.{find}
@@ -13,7 +13,7 @@ use Rattle.ame_cli.specs.Grammar.{Part, apart, joined, number}
 abbrev pub named : Word → Option Item
 named name = find (λ item. bytes_eq (name_of item) name) all_items
 
--- what a word comes to, where an option waits for its value or none does: the parts that it ends, and the option that
+-- the effect of a word, after an option that waits for its value or after none: the parts that it ends, and the option that
 -- waits after it
 abbrev pub Taken : Type 0
 Taken = Option (List Part × Option Item)

@@ -1,4 +1,4 @@
--- What the getters of clap's matches tell.
+-- The answers of the getters of clap's matches.
 use Rattle.std.proofs.Common.{◌≡◌, ◌≢◌, ◌≤◌, List, [], ◌∷◌, true, false, true≢false, inl, inr, Option, Some, None, map, length, refl, sym, ap, ◌∙◌, arith, le-leb, eqb-true}
 use Rattle.std.proofs.lemmas.List.{length-map}
 use Rattle.std.specs.Prelude.{option_map, Box, ◌&&◌, ◌==◌}
@@ -24,7 +24,7 @@ subcommand_is m name rows e f = go (out-ArgMatches m).subcommand e f
     go None p q = cc
     go (Some b) p q = cc
 
--- an error that isn't want of memory comes of a fault
+-- an error other than out of memory comes of a fault
 pub kind_faults : (kinds : Kinds) (e : Error) → HasKind kinds e → kind_of e ≢ OutOfMemory → kinds ≢ []
 kind_faults [] e (inl memory) differs = λ none. differs memory
 kind_faults [] e (inr among) differs = λ none. among

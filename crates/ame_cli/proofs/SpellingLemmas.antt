@@ -1,4 +1,4 @@
--- A list of words spells a command exactly where it is read as that command.
+-- A list of words spells a command if and only if it is read as that command.
 use Rattle.std.proofs.Common.{◌≡◌, ◌≢◌, ◌⊎◌, inl, inr, ℕ, suc, ◌+◌, ◌*◌, ◌≤◌, Bool, true, false, cond, List, [], ◌∷◌, ◌++◌, Option, Some, None, Result, Ok, Err, length, refl, sym, ap, ap₂, ◌∙◌, subst, codes, arith, true≢false, le-leb, leb-true}
 use Rattle.std.specs.Prelude.{option_map, option_and_then, ◌&&◌, nat_le, slice_index}
 use Rattle.std.specs.List.{flat_map, list_all, list_any}
@@ -52,7 +52,7 @@ unfolding verbs
 named_verb verb.Run = refl
 named_verb _ = refl
 
--- where a step gave something, so did the one before it
+-- if a step gave something, so did the one before it
 came_from : {A B : Type 0} (f : A → Option B) (o : Option A) (b : B) → option_and_then f o ≡ Some b → (a : A) × (o ≡ Some a) × (f a ≡ Some b)
 came_from f None b e = cc
 came_from f (Some a) b e = (a, refl, e)

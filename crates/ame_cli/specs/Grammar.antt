@@ -11,7 +11,7 @@ use Rattle.ame_cli.specs.Items.{Word, name_of, default_of, is_same}
 use Rattle.ame_cli.specs.Verbs.{verb_word}
 use Rattle.ame_cli.specs.Settings.{command_of}
 
--- what stands behind the first word: an option and its value, as two words or as one with `=` between, or
+-- a part after the first word: an option and its value, as two words or as one with `=` between, or
 -- a number word
 pub data Part : Type 0 where
   apart : Item → Word → Part
@@ -48,7 +48,7 @@ numbers parts = flat_map number_by parts
 abbrev pub defaults : Options
 defaults = record { workers = default_of Workers; turns = default_of Turns; slice = default_of Slice }
 
--- No words are `run` with the defaults. Else a verb stands first, and then parts in any order, of which the verb makes a
+-- No words are `run` with the defaults. Otherwise a verb stands first, and then parts in any order, and the verb makes them a
 -- command: each option that the verb may be given at most once and no other, as many number words as the verb takes, and
 -- each number in its bounds.
 pub data SpellsCommand : List Word → Command → Type 0 where

@@ -1,4 +1,4 @@
--- The options of a command, their bounds and what they are where they aren't given.
+-- The options of a command, their bounds and their defaults.
 use Rattle.std.specs.Prelude.{ℕ, List, Bool, codes}
 use Rattle.std.specs.Str.{bytes_eq}
 use Rattle.ame_cli.specs.declared.bounds.Bounds.{Bounds}
@@ -22,7 +22,7 @@ bounds_of Workers = record { least = 1; most = worker_limit }
 bounds_of Turns = record { least = 1; most = turn_limit }
 bounds_of Slice = record { least = 1; most = slice_limit }
 
--- the number where it isn't given
+-- the number if it isn't given
 abbrev pub default_of : Item → ℕ
 default_of Workers = 1
 default_of Turns = 1000000

@@ -11,7 +11,7 @@ use Rattle.ame_cli.specs.Items.{Word}
 abbrev pub is_number : Word → Bool
 is_number word = nat_le 1 (length word) && (nat_le (length word) digit_limit && list_all is_ascii_digit word)
 
--- the decimal value of a number word, where it is in the bounds
+-- the decimal value of a number word, if it is in the bounds
 abbrev pub number_within : Bounds → Word → Option ℕ
 number_within bounds word =
     let value = digits_value 10 word in

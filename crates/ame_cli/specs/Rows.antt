@@ -1,4 +1,4 @@
--- What clap found for a command.
+-- The finds of clap for a command.
 use Rattle.std.specs.Prelude.{List, [], Option, unwrap_or, option_and_then, codes}
 use Rattle.clap.specs.Words.{Row, all_of}
 use Rattle.ame_cli.specs.declared.command.Command.{Command}
@@ -6,7 +6,7 @@ use Rattle.ame_cli.specs.Items.{Word, name_of}
 use Rattle.ame_cli.specs.Verbs.{verb_named}
 use Rattle.ame_cli.specs.Settings.{command_of}
 
--- no texts, where there are none
+-- no texts, if there are none
 abbrev pub texts_in : Option (List Word) → List Word
 texts_in texts = unwrap_or texts []
 

@@ -11,6 +11,6 @@ may_stand (a ∷ []) = not (a == 45)
 may_stand (a ∷ b ∷ []) = not (a == 45)
 may_stand (a ∷ b ∷ c ∷ rest) = if a == 45 then b == 45 else true
 
--- at most 16 words, each of which may stand
+-- at most 16 words, and each may stand
 abbrev pub may_be_read : List Word → Bool
 may_be_read words = nat_le (length words) word_limit && list_all may_stand words

@@ -1,4 +1,4 @@
--- What values of options and number words come to.
+-- The settings that values of options and number words give.
 use Rattle.std.specs.Prelude.{ℕ, List, [], ◌∷◌, Option, Some, None, option_map, option_and_then, if◌then◌else◌}
 use Rattle.std.specs.List.{list_any}
 use Rattle.ame_cli.specs.declared.item.Item.{Item}

@@ -1,4 +1,4 @@
--- What clap is told.
+-- The commands that clap is given.
 use Rattle.std.specs.Prelude.{true, Some, fold, codes}
 use Rattle.clap.specs.Words.{App, Rule, new_app, new_rule, with_rule, with_subcommand}
 use Rattle.clap.specs.declared.builder.ArgAction.TheVariants.{Append}
@@ -13,7 +13,7 @@ option_rule name = record (new_rule name) { long = Some name; action = Some Appe
 abbrev pub numbers_rule : Rule
 numbers_rule = record (new_rule (codes "numbers")) { action = Some Append }
 
--- each verb is told to clap with all options and any number words; which of them it may have is tested afterwards
+-- each verb is given to clap with all options and any number words; which of them it may have is tested afterwards
 abbrev pub verb_app : Word → App
 verb_app word =
     with_rule (with_rule (with_rule (with_rule (new_app word) (option_rule (name_of Workers)))

@@ -1,4 +1,4 @@
--- The words with which a list begins, and what may stand behind each.
+-- The words with which a list begins, and the words that may follow each.
 use Rattle.std.specs.Prelude.{ℕ, List, [], ◌∷◌, Option, codes, find, slice_index}
 use Rattle.std.specs.Str.{bytes_eq}
 use Rattle.ame_cli.specs.declared.bounds.Bounds.{Bounds}

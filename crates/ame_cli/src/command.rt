@@ -4,8 +4,8 @@ ghost use Rattle.std.specs.Prelude.{◌≡◌};
 use crate::item::Item;
 use std::alloc::AllocError;
 
-/// How a run goes: how many workers take part, how many turns are made at most, and how many reductions a
-/// worker makes between two events at most.
+/// The limits of a run: the number of workers, the most turns that are made, and the most reductions that a
+/// worker makes between two events.
 #[derive(Clone, Copy, Debug, PartialEq, Eq)]
 pub struct Options {
     pub workers: u32,
@@ -27,7 +27,7 @@ impl Default for Options {
     }
 }
 
-/// What to do.
+/// A command.
 #[derive(Clone, Copy, Debug, PartialEq, Eq)]
 pub enum Command {
     /// Runs the program on the standard input.
@@ -38,9 +38,9 @@ pub enum Command {
     Sim(u32, Options),
     /// Runs the program on the standard input on one thread, under the choices of the schedule before it.
     Replay(Options),
-    /// Judges the journal on the standard input by the program behind it.
+    /// Judges the journal on the standard input by the program after it.
     Check,
-    /// Goes on from the journal on the standard input with the program behind it.
+    /// Goes on from the journal on the standard input with the program after it.
     Resume(Options),
     /// Runs the program on the standard input under the weak semantics by the choices of a seed, with a limit of turns.
     Weak(u32, u32),

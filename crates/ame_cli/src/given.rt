@@ -1,4 +1,4 @@
-//! What the matches of a command say.
+//! The commands that matches spell.
 ghost use Rattle.std.specs.Prelude.{◌≡◌, option_map, option_and_then, map};
 ghost use Rattle.std.specs.List.{list_any};
 ghost use Rattle.clap.specs.Words.{rows_of, found_of, subcommand_rows_of};
@@ -15,14 +15,14 @@ use crate::syntax::NUMBERS;
 use crate::verb::Verb;
 use clap::ArgMatches;
 
-/// Whether an option is among those that may be given.
+/// Returns whether an option is among those that may be given.
 fn may_be_given(allowed: &[Item], item: Item) -> bool
     ensures { result ≡ list_any (is_same item) allowed.now }
 {
     allowed.iter().any(|other| other.name() == item.name())
 }
 
-/// The number of an option that was given these values: the default, where it was given none.
+/// Returns the number of an option that was given these values, or the default if it was given none.
 fn setting(allowed: &[Item], item: Item, values: Option<&[&str]>) -> Option<u32>
     ensures { result ≡ spec.setting allowed.now item (texts_in (option_map (λ vs. map (λ v. v.now) vs.now) values.entry)) }
 {
@@ -39,14 +39,14 @@ fn setting(allowed: &[Item], item: Item, values: Option<&[&str]>) -> Option<u32>
     }
 }
 
-/// The number of an option of a command.
+/// Returns the number of an option of a command.
 fn setting_of(allowed: &[Item], item: Item, matches: &ArgMatches) -> Option<u32>
     ensures { result ≡ spec.setting allowed.now item (values_in (name_of item) (rows_of (found_of matches.now))) }
 {
     setting(allowed, item, matches.get_raw(item.name()))
 }
 
-/// The options that a command was given.
+/// Returns the options that a command was given.
 fn options(allowed: &[Item], matches: &ArgMatches) -> Option<Options>
     ensures { result ≡ spec.options_spelled allowed.now (λ item. values_in (name_of item) (rows_of (found_of matches.now))) }
 {
@@ -57,7 +57,7 @@ fn options(allowed: &[Item], matches: &ArgMatches) -> Option<Options>
     })
 }
 
-/// The command of a verb, its number words and its options.
+/// Returns the command of a verb, its number words and its options.
 fn command_of(verb: Verb, words: &[&str], options: Options) -> Option<Command>
     ensures { result ≡ option_map (λ numbers. command_with verb numbers options) (numbers_within (verb_form verb).numbers (map (λ w. w.now) words.now)) }
 {
@@ -72,7 +72,7 @@ fn command_of(verb: Verb, words: &[&str], options: Options) -> Option<Command>
     }
 }
 
-/// The command that the matches tell.
+/// Returns the command that the matches spell.
 pub(crate) fn command_in(matches: &ArgMatches) -> Option<Command>
     ensures { result ≡ option_and_then (λ p. named_in p.0 p.1) (subcommand_rows_of matches.now) }
 {

@@ -15,7 +15,7 @@ pub enum Item {
 impl Item {
     ghost use Rattle.ame_cli.specs.Items.{name_of, bounds_of, default_of};
 
-    /// The name, without hyphens.
+    /// Returns the name, without hyphens.
     pub fn name(self) -> &'static str
         ensures { result.now ≡ name_of self }
     {
@@ -26,7 +26,7 @@ impl Item {
         }
     }
 
-    /// The least and the greatest value.
+    /// Returns the least and the greatest value.
     pub fn bounds(self) -> Bounds
         ensures { result ≡ bounds_of self }
     {
@@ -38,7 +38,7 @@ impl Item {
         Bounds { least: 1, most }
     }
 
-    /// The value where the option isn't given.
+    /// Returns the value if the option isn't given.
     pub fn default(self) -> u32
         ensures { result ≡ default_of self }
     {

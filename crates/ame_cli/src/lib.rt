@@ -1,4 +1,4 @@
-//! What a list of words on the command line asks for: a command with its options, or a usage fault.
+//! Commands with their options, read from a list of words on the command line, or a usage fault.
 #![tactic(auto)]
 
 mod bounds;

@@ -15,17 +15,17 @@ use clap::error::ErrorKind;
 use clap::{ArgMatches, Error};
 use std::alloc::Global;
 
-/// The command that words ask for. Its cost is linear in the words.
+/// Returns the command that words ask for. Its cost is linear in the words.
 pub fn read_words(alloc: Global, words: &[String]) -> Result<Command, CliFail>
-    // What is answered is what the words spell.
+    // The answer is the command that the words spell.
     ensures ok { IfOk result (SpellsCommand (map string_bytes words.now)) }
 
     ensures ranges { IfOk result IsInRange }
 
-    // What they spell is answered, unless memory runs out.
+    // The command that they spell is answered, unless memory runs out.
     ensures spelled { (command : Cmd) → SpellsCommand (map string_bytes words.now) command → (result ≡ Ok command) ⊎ (result ≡ Err CliFail.NoMemory) }
 
-    // `Usage` comes exactly where they spell nothing, or `NoMemory` in its place.
+    // `Usage`, or `NoMemory` in its place, comes if and only if they spell nothing.
     ensures usage { result ≡ Err CliFail.Usage → SpellsNothing (map string_bytes words.now) }
     ensures nothing { SpellsNothing (map string_bytes words.now) → (result ≡ Err CliFail.Usage) ⊎ (result ≡ Err CliFail.NoMemory) }
 {
@@ -44,7 +44,7 @@ pub fn read_words(alloc: Global, words: &[String]) -> Result<Command, CliFail>
     }
 }
 
-/// What `clap` makes of the words.
+/// Returns the matches that `clap` finds in the words.
 fn parse<'a>(alloc: Global, words: &'a [String]) -> Result<ArgMatches<'a>, CliFail>
     ensures ok { IfOk result (λ m. fault_of spec.syntax (map string_bytes words.now) ≡ []) }
     ensures rows { IfOk result (λ m. subcommand_rows_of m ≡ subcommand_of spec.syntax (map string_bytes words.now)) }
@@ -60,7 +60,7 @@ fn parse<'a>(alloc: Global, words: &'a [String]) -> Result<ArgMatches<'a>, CliFa
     }
 }
 
-/// Why `clap` refused.
+/// Returns the reason why `clap` refused.
 fn fail_of(error: &Error) -> CliFail
     ensures { result ≡ CliFail.Usage → kind_of error.now ≢ OutOfMemory }
 {

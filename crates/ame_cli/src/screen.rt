@@ -5,7 +5,7 @@ ghost use Rattle.ame_cli.specs.Screen as spec;
 
 use crate::limits::WORD_LIMIT;
 
-/// Whether a word is neither empty nor `--` nor a short option.
+/// Returns whether a word is neither empty nor `--` nor a short option.
 fn may_stand(word: &str) -> bool
     ensures { result ≡ spec.may_stand word.now }
 {
@@ -24,7 +24,7 @@ fn all_may_stand(words: &[String]) -> bool
     words.iter().all(|word| may_stand(word.as_str()))
 }
 
-/// Whether a list is short enough, and each of its words may stand in it.
+/// Returns whether a list is short enough, and each of its words may stand in it.
 pub(crate) fn may_be_read(words: &[String]) -> bool
     ensures { result ≡ spec.may_be_read (map string_bytes words.now) }
 {

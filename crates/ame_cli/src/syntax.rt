@@ -1,4 +1,4 @@
-//! What `clap` is told of the commands.
+//! The commands, as `clap` is given them.
 ghost use Rattle.std.specs.Prelude.{◌≡◌, IfOk, false, true};
 ghost use Rattle.ame_cli.specs.Syntax as spec;
 ghost use Rattle.clap.specs.Words.{app_of, is_simple, is_simple_and_free, rule_of};
@@ -12,7 +12,7 @@ use std::alloc::{AllocError, Global};
 /// The name under which the number words of a command are found.
 pub(crate) const NUMBERS: &str = "numbers";
 
-/// An option with one value. How often it is given is tested when the matches are read.
+/// Makes an option with one value. The number of times that it is given is tested when the matches are read.
 fn option<'a>(alloc: Global, name: &'a str) -> Arg<'a>
     ensures rule { rule_of result ≡ spec.option_rule name.entry.now }
     ensures local { result.global ≡ false }
@@ -20,7 +20,7 @@ fn option<'a>(alloc: Global, name: &'a str) -> Arg<'a>
     Arg::new(alloc, name).long(name).action(ArgAction::Append)
 }
 
-/// A command with the options and any number words. Which of them it may have is tested when the matches are read.
+/// Makes a command with the options and any number words. A test when the matches are read says which of them it may have.
 fn verb_syntax<'a>(alloc: Global, word: &'a str) -> Result<Command<'a>, AllocError>
     ensures shape { IfOk result (λ c. app_of c ≡ spec.verb_app word.entry.now) }
     ensures local { IfOk result (λ c. (fields_of c).has_globals ≡ false) }
@@ -36,7 +36,7 @@ fn verb_syntax<'a>(alloc: Global, word: &'a str) -> Result<Command<'a>, AllocErr
         .arg(Arg::new(alloc, numbers).action(ArgAction::Append))
 }
 
-/// All commands.
+/// Makes all commands.
 pub(crate) fn syntax<'a>(alloc: Global) -> Result<Command<'a>, AllocError>
     ensures app { IfOk result (λ c. app_of c ≡ spec.syntax) }
     ensures simple { IfOk result (λ c. is_simple (app_of c) ≡ true) }

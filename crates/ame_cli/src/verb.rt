@@ -1,4 +1,4 @@
-//! Command words, and what may stand behind each.
+//! Command words, and the words that may follow each.
 ghost use Rattle.std.specs.Prelude.{◌≡◌, length};
 
 use crate::bounds::Bounds;
@@ -56,7 +56,7 @@ impl Verb {
         ]
     }
 
-    /// What may stand behind a verb.
+    /// Returns the words that may follow a verb.
     pub fn form(self) -> Form
         ensures word { result.word.now ≡ (verb_form self).word }
         ensures numbers { result.numbers.now ≡ (verb_form self).numbers }
@@ -101,7 +101,7 @@ impl Verb {
         }
     }
 
-    /// The command of a verb's numbers and options.
+    /// Returns the command of a verb's numbers and options.
     pub fn command(self, numbers: &[u32], options: Options) -> Command
         requires { length numbers.now ≡ length (verb_form self).numbers }
         ensures { result ≡ command_with self numbers.now options }
@@ -117,7 +117,7 @@ impl Verb {
         }
     }
 
-    /// The verb of this word.
+    /// Returns the verb of this word.
     pub fn named(word: &str) -> Option<Verb>
         ensures { result ≡ verb_named word.now }
     {

@@ -1,4 +1,4 @@
--- A list of devices of which one is called.
+-- A list of devices, one of them called.
 use Rattle.std.proofs.Common.{◌≡◌, ℕ, ℤ, List, Some, Result, Err, map, option_map, sym, ap, subst, ◌∙◌}
 use Rattle.std.specs.Prelude.{slice_get, slice_set}
 use Rattle.std.proofs.lemmas.Option.{slice_get-map, get_or_from_slice_get}
@@ -7,7 +7,7 @@ use Rattle.ame_device.specs.Calls.{AnswersCall, CallsOne}
 use Rattle.ame_device.specs.declared.told.Told.{Told}
 use Rattle.ame_device.specs.declared.fault.DeviceFail.{DeviceFail}
 
--- where memory was wanted, each device tells what it told
+-- if memory ran out, each device reports what it reported before
 pub wanting-leaves : (before after : List Told) (k : ℕ) (argument : ℤ) → CallsOne before k argument (Err DeviceFail.NoMemory) after → after ≡ before
 wanting-leaves before after k argument c =
     c.others ∙ ap (slice_set before k) (c.answers ∙ sym (get_or_from_slice_get before k c.was c.was c.found)) ∙ set-get_or before k c.was

@@ -1,4 +1,4 @@
--- What contracts see of a device in memory.
+-- The view of a device in memory in contracts.
 use Rattle.std.specs.Prelude.{ℕ, ℤ, pos, List, [], ◌∷◌, map}
 use Rattle.std.specs.Int.{w64, int_wrapping_add}
 use Rattle.ame_device.specs.declared.told.Heard.{Heard}

@@ -30,7 +30,7 @@ impl Model for Adder {
 }
 
 impl Adder {
-    /// One that heard nothing yet, without memory.
+    /// Makes a device that heard nothing yet, without memory.
     pub fn new(alloc: Global) -> Adder
         ensures { result ≡ record { heard = []; faults = 0 } }
     {

@@ -24,7 +24,7 @@ impl Model for Counter {
 }
 
 impl Counter {
-    /// One that heard nothing yet, without memory.
+    /// Makes a device that heard nothing yet, without memory.
     pub fn new(alloc: Global) -> Counter
         ensures { result ≡ record { heard = []; faults = 0 } }
     {

@@ -1,4 +1,4 @@
-//! What a device in memory keeps of its calls.
+//! The calls that a device in memory keeps.
 ghost use Rattle.std.specs.Prelude.{◌≡◌, ◌≢◌, ◌++◌, [], ◌∷◌, Ok, Err, OnOk, OnErr};
 ghost use Rattle.ame_io.specs.Counts.{HasRisen};
 ghost use Rattle.ame_device.specs.Calls.{answered};

@@ -1,4 +1,4 @@
-//! What a device tells of itself.
+//! The report of a device on itself.
 use std::collections::LinkedList;
 
 /// A call that a device answered.
@@ -8,7 +8,7 @@ pub struct Heard {
     pub answer: i64,
 }
 
-/// What contracts see of a device: what it heard, where it tells it, and its count of faults. No value
+/// The view of a device in contracts: the calls that it heard, if it reports them, and its count of faults. No value
 /// of it is made.
 pub struct Told {
     pub heard: Option<LinkedList<Heard>>,

@@ -27,7 +27,7 @@ range-more f old text new n before is =
         ap (λ m. flat_map f (range_with_len 0 m)) (add-one n) ∙ ap (flat_map f) (range_with_len-suc 0 n ∙ ap (λ m. range_with_len 0 n ++ m ∷ []) first)
         ∙ flat_map-append f (range_with_len 0 n) (n ∷ []) ∙ ap (λ t. flat_map f (range_with_len 0 n) ++ t) (append-nil (f n))
 
--- what is written where a call succeeds
+-- the bytes that a call writes if it succeeds
 pub on_ok : {T E : Type 0} (P Q : Type 0) (r : Result T E) → (P → Q) → OnOk r P → OnOk r Q
 on_ok P Q (Ok x) go h = go h
 on_ok P Q (Err e) go h = h

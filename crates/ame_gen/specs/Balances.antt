@@ -1,4 +1,4 @@
--- What the accounts have before and after the transfers.
+-- Balances of the accounts before and after the transfers.
 use Rattle.std.specs.Prelude.{ℕ, ◌+◌, ◌-◌, ◌*◌, ◌==◌, if◌then◌else◌, sum_by}
 use Rattle.ame_gen.specs.declared.transfers.Transfer.{Transfer}
 use Rattle.ame_gen.specs.Transfers.{transfers}

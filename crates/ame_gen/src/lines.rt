@@ -15,7 +15,7 @@ pub(crate) fn write(text: &mut Vec<u8>, bytes: &[u8]) -> Result<(), NoMemory>
     Ok(())
 }
 
-/// Appends bytes, and a number behind them.
+/// Appends bytes, and a number after them.
 fn write_before(text: &mut Vec<u8>, bytes: &[u8], number: u32) -> Result<(), NoMemory>
     ensures { OnOk result (text.new.items ≡ text.old.items ++ bytes.now ++ decimal number) }
 {

@@ -1,4 +1,4 @@
-//! Want of memory.
+//! The error of an allocation that failed.
 ghost use Rattle.std.specs.Prelude.{◌≡◌};
 
 use std::alloc::AllocError;

@@ -25,7 +25,7 @@ impl Model for Numbers {
 }
 
 impl Numbers {
-    /// The stream that a seed begins. The seed itself isn't drawn.
+    /// Returns the stream that a seed begins. The seed itself isn't drawn.
     pub fn new(seed: u32) -> Numbers
         requires { seed ≤ SEED_LIMIT }
         ensures { result ≡ seed }
@@ -33,7 +33,7 @@ impl Numbers {
         Numbers { last: seed }
     }
 
-    /// The next number.
+    /// Returns the next number.
     pub fn draw(&mut self) -> u32
         ensures answer { result ≡ next self.old }
         ensures after { self.new ≡ next self.old }

@@ -12,7 +12,7 @@ use std::alloc::Global;
 /// The most transfers that a text may have.
 pub const SIZE_LIMIT: u32 = 4_000;
 
-/// The text of a program with as many transfers as `size`, which `seed` determines. Its cost is linear in the size.
+/// Returns the text of a program with as many transfers as `size`, which `seed` determines. Its cost is linear in the size.
 pub fn generate(alloc: Global, seed: u32, size: u32) -> Result<Vec<u8>, NoMemory>
     requires seed { seed ≤ SEED_LIMIT }
     requires some { 1 ≤ size }

@@ -13,7 +13,7 @@ pub struct Transfer {
     pub amount: u32,
 }
 
-/// The transfer that the next three numbers make.
+/// Returns the transfer that the next three numbers make.
 pub(crate) fn draw_transfer(numbers: &mut Numbers) -> Transfer
     ensures drawn { result ≡ drawn_after numbers.old }
     ensures after { numbers.new ≡ next (next (next numbers.old)) }

@@ -1,4 +1,4 @@
--- What one turn of a machine finds.
+-- The finds of one turn of a machine.
 use Rattle.std.specs.Prelude.{◌≡◌, ◌≢◌, Option, Some, None}
 use Rattle.ame_term.specs.Context.{focus}
 use Rattle.ame_term.specs.Act.{Act}
@@ -9,7 +9,7 @@ use Rattle.ame_machine.specs.MachineView.{MachineView}
 use Rattle.ame_machine.specs.Need.{Need, need_of, need_told}
 use Rattle.ame_machine.specs.Move.{step_alone}
 
--- what one turn makes of a machine that told no want: a step alone, or a want, with what the redex does
+-- the effect of one turn on a machine that reported no want: a step alone, or a want, with what the redex does
 abbrev pub Turned : Option Wants → MachineView → MachineView → Option Act → Type 0
 Turned None m n held = (need_of m ≡ Need.Step) × (step_alone m ≡ Some n)
 Turned (Some want) m n held =

@@ -1,4 +1,4 @@
--- What is so where a machine has a need.
+-- Facts of a machine that has a need.
 use Rattle.std.specs.Prelude.{◌≡◌, ◌<◌, true, false, Some}
 use Rattle.ame_term.specs.Tree.{Val, Tree}
 use Rattle.ame_term.specs.Context.{Focus, focus}
@@ -14,7 +14,7 @@ use Rattle.ame_machine.specs.Need.{Need}
 abbrev pub HasNextAct : MachineView → Act → Type 0
 HasNextAct m act = (redex : Tree) × (focus m.term ≡ Focus.AtRedex (running_side m) redex) × (act_of redex ≡ act)
 
--- What comes next. Each want but `Tall` has no step without an input.
+-- The next step. Each want but `Tall` has no step without an input.
 abbrev pub Comes : MachineView → Need → Type 0
 Comes m Need.Step = (p : LocalState) × (one_step (running_side m) (place_shown m) ≡ Some p)
 Comes m (Need.Read l) = HasNextAct m (Act.Reads l)

@@ -1,4 +1,4 @@
--- What the code, the values and the machines of a kind mean.
+-- The meaning of the code, the values and the machines of a kind.
 use Rattle.ame_term.specs.Tree.{Val, Tree}
 use Rattle.ame_term.specs.Signature.{Signature}
 use Rattle.ame_machine.specs.MachineView.{MachineView}

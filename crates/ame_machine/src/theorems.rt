@@ -17,16 +17,16 @@ ghost use Rattle.ame_machine.specs.Run.AgreesWith.{AgreesWith, IsAfterRun};
 ghost use Rattle.ame_term.specs.declared.semantics.StepKind.{StepKind};
 ghost use Rattle.ame_journal.specs.Labels.{AreSteps, fragment_labels, free_labels};
 
-/// A machine on a run that is typed throughout can run, if the run began where its side may begin.
+/// Says that a machine on a run that is typed throughout can run, if the run began as its side may begin.
 pub fn machines_on_typed_runs_can_run()
     ensures { (signature : Signature) (cells : StoreTyping) (start : Tree) (inputs : List Val) (m : MachineView)
         → IsTypedThroughout signature cells (running_side m) start inputs Typ.Unit → OnRun start inputs m
         → (m.inside ≡ true → at_unprotected (focus start) ≡ true) → IsRunnable signature cells m }
 {}
 
-/// A run in protected code that agrees with the store is the member's labels: it becomes active and makes
-/// as many steps, with the same new locations. What it set is in the store then, what it printed stands
-/// behind the output, its new members have the next numbers, and the member is what the run has become.
+/// Says that a run in protected code that agrees with the store is the member's labels: it becomes active and makes
+/// as many steps, with the same new locations. What it set is in the store then, what it printed
+/// follows the output, its new members have the next numbers, and the member is what the run has become.
 pub fn protected_runs_are_labels()
     ensures { (s : State) (i : ℕ) (term : Tree) (inputs : List Val) (n : ℕ) (p : LocalState)
         → s.active ≡ None → at s.members i ≡ Some term → at_unprotected (focus term) ≡ false
@@ -34,7 +34,7 @@ pub fn protected_runs_are_labels()
         → (t : State) × UnderWay s i n p.fresh t × IsAfterRun s i p t × (at t.members i ≡ Some p.term) }
 {}
 
-/// Labels of a member are a run of it: where it becomes active and makes n steps in a state, n steps of its
+/// Says that labels of a member are a run of it: if it becomes active and makes n steps in a state, n steps of its
 /// run lead to a place that has used all inputs. The run agrees with the store, it has the same new locations,
 /// and the state is the one after it.
 pub fn fragments_are_runs()
@@ -44,7 +44,7 @@ pub fn fragments_are_runs()
         × AgreesWith s.store p × IsAfterRun s i p u × (at u.members i ≡ Some p.term) × (p.fresh ≡ fresh) × (u.active ≡ Some i) }
 {}
 
-/// So are its labels in unprotected code, also with the answer of a device.
+/// Says that its labels in unprotected code are a run of it too, also with the answer of a device.
 pub fn free_labels_are_runs()
     ensures { (s : State) (i : ℕ) (term : Tree) (kinds : List StepKind) (n : ℕ) (fresh : List ℕ) (answer : Option ℤ) (u : State)
         → s.active ≡ None → at s.members i ≡ Some term → AreSteps kinds n fresh answer → run s (free_labels i kinds) ≡ Some u

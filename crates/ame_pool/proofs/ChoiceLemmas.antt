@@ -1,16 +1,17 @@
--- The front of the order and the counts decide who begins.
+-- The first of the order and the counts decide which member begins.
 use Rattle.std.proofs.Common.{◌≡◌, ◌<◌, ◌≤◌, ◌+◌, ◌==◌, ◌&&◌, ℕ, Bool, true, false, cond, not, List, [], ◌∷◌, length, Some, None, IsSomeAnd, IsTrue, refl, sym, ap, ◌∙◌, arith, ◌++◌, Option}
 use Rattle.ame_pool.proofs.Words.{cases_Bool, Member, Oldest, Counts, find, is_ready, is_busy, is_parked, Roster, Register, is_protected, is_exhausted, is_exhausted_protected, some_busy, may_begin_beside, may_begin, first_to_begin, members_of, oldest, oldest_or_wait, Queues, front, idle, is_inside_at, IsKept, ◌||◌, nat_lt, filter, list_any, list_all, count_by, nat_tests, count_by-le-length, list_any-append}
 use Rattle.ame_pool.proofs.MemberLemmas.{count_cons, find_number, which}
 use Rattle.ame_pool.proofs.CountLemmas.{kinds}
 use Rattle.ame_pool.proofs.OrderLemmas.{order_ready}
 
--- ---- truth values: i stands inside, w is exhausted; p and b tell that a protected and an exhausted one are busy, o that an exhausted one is older
--- beside a busy protected one, and an exhausted one that is busy or older, none begins but from inside
+-- ---- truth values: i stands inside, w is exhausted; p and b stand for a protected and an exhausted one that are
+-- busy, o for an exhausted one that is older
+-- while a protected one is busy, and an exhausted one is busy or older, none begins but from inside
 blocked : (i w p b o : Bool) → p ≡ true → (b || o) ≡ true → cond i true (cond w (not p) (not b && not o)) ≡ i
 blocked i w p b o hp hb = grind (arith, hp, hb, cases_Bool i, cases_Bool w, cases_Bool b)
 
--- the first one may not begin only where a protected one is busy, and where it is exhausted or an exhausted one is busy
+-- the first one may not begin only if a protected one is busy, and if it is exhausted or an exhausted one is busy
 first_waits : (i w p b : Bool) → (b ≡ true → p ≡ true) → cond i true (cond w (not p) (not b && not false)) ≡ false
     → (i ≡ false) × (p ≡ true) × ((b || ((not i && w) || false)) ≡ true)
 first_waits i w p b up h = (
@@ -68,11 +69,11 @@ module _ {M : Type 0} where
               inside_begins w.1 (members_of ms ns) (m ∷ []) w.2 ∙ inside_front ns ∙ ap front (sym same)
         ] refl
 
-  -- where neither a protected nor an exhausted one is busy, whoever is first may begin
+  -- if neither a protected nor an exhausted one is busy, the first one may begin
   pub all_begin : (p e : Bool) → (not p && not e) ≡ true → (m : Member M) → may_begin_beside p e false m ≡ true
   all_begin p e h m = grind (arith, h, cases_Bool p, cases_Bool e, cases_Bool m.inside, cases_Bool (is_exhausted m))
 
--- ---- the front of a list
+-- ---- the first of a list
 front_none : (ns : List ℕ) → front ns ≡ None → ns ≡ []
 front_none [] e = refl
 front_none (n ∷ ns) e = cc
@@ -107,7 +108,7 @@ module _ {M : Type 0} where
     abbrev roster : Roster M
     roster = record { members = reg.list; order = q.order; room = reg.room }
 
-    -- nobody is ready
+    -- no member is ready
     pub idle_is : front q.order ≡ None → oldest roster ≡ idle c
     idle_is e =
         let at = front_none q.order e in
@@ -119,11 +120,11 @@ module _ {M : Type 0} where
         let parked = h.counted.parked in
         law ∙ grind (arith, nat_tests, wait, none, empty, busy, parked, kinds reg.list)
 
-    -- somebody is busy where nobody is ready, and it is told to wait
+    -- some member is busy if none is ready, and the answer is to wait
     pub idle_waits : idle c ≡ Oldest.Wait → list_any is_busy reg.list ≡ true
     idle_waits e = any_counts is_busy reg.list ∙ grind (arith, nat_tests, e, h.counted.busy, cases_Bool (nat_lt 0 c.busy), cases_Bool (nat_lt 0 c.parked))
 
-    -- and where the front may not begin
+    -- and if the first one may not begin
     pub held_up : (m : Member M) → may_begin_beside (nat_lt 0 c.protected) (nat_lt 0 c.exhausted) false m ≡ false → list_any is_busy reg.list ≡ true
     held_up m e =
         let some : 0 < c.protected + c.exhausted = grind (arith, nat_tests, e, cases_Bool m.inside, cases_Bool (is_exhausted m)) in
@@ -144,7 +145,7 @@ module _ {M : Type 0} where
           let w : some_busy is_exhausted_protected reg.list ≡ nat_lt 0 c.exhausted = any_counts (λ m. is_busy m && is_exhausted_protected m) reg.list ∙ ap (nat_lt 0) (sym h.counted.exhausted) in
           ap (λ b. may_begin_beside b (some_busy is_exhausted_protected reg.list) false m) p ∙ ap (λ b. may_begin_beside (nat_lt 0 c.protected) b false m) w
 
-      -- the front decides
+      -- the first one decides
       pub front_is : (s : Roster M) → roster ≡ s → (b : Bool) → b ≡ may_begin_beside (nat_lt 0 c.protected) (nat_lt 0 c.exhausted) false m
           → oldest_or_wait (cond b (Some n) (front q.inside)) ≡ oldest s
       front_is s view b may =

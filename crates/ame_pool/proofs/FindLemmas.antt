@@ -21,7 +21,7 @@ refused_table a k l m h had elsewhere = grind (arith, h, had, elsewhere, cases_B
 
 -- ---- the index
 module _ {M : Type 0} {s : Roster M} {ix : BTreeSet (ℕ × ℕ)} (h : IsWatched s ix) where
-  -- the members and the index were edited at a number, and it is listed where whoever has it then watches
+  -- the members and the index were edited at a number, and it is listed at the locations that the member with it then watches
   watched_after : (t : Roster M) {n : ℕ} {f : Option (Member M) → Option (Member M)} → IsFoundAfter n f s.members t.members
       → (new : Option (Member M)) → f (find n s.members) ≡ new
       → {test : ℕ → Bool} {ix' : BTreeSet (ℕ × ℕ)} → IsListedAfter n test ix ix' → ((k : ℕ) → test k ≡ waits_for k new) → IsWatched t ix'

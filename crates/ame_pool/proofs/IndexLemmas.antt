@@ -41,7 +41,7 @@ paired l n value old new step = record {
   others = λ k m other. step (k, m) ∙ ap (λ b. cond b value (lists old k m)) (pair_other l n k m other);
 }
 
--- an index without pairs names nobody
+-- an index without pairs names no member
 pub names_nobody : (index : BTreeSet (ℕ × ℕ)) → btree_set_len index ≡ 0 → (k n : ℕ) → lists index k n ≡ false
 names_nobody index none k n = none_passes (is_at (pair_cmp (k, n))) index.keys none
 

@@ -8,6 +8,6 @@ mod CountLemmas
 mod StandingLemmas
 mod KeptLemmas
 mod WakeLemmas
-mod LineLemmas
+mod QueueLemmas
 mod ChoiceLemmas
 mod IndexLemmas

@@ -37,14 +37,14 @@ module _ {M : Type 0} where
       (λ _ h. subst P (same_Some o m h) (All-head P o ms all))
       (λ _ h. find_passes P n ms (All-tail P o ms all) m h) e
 
-  -- nobody has a number below all
+  -- no member has a number below all
   pub none_above : (n : ℕ) (ms : List (Member M)) → All (λ o. n < o.number) ms → find n ms ≡ None
   none_above n [] all = refl
   none_above n (m ∷ ms) all =
       let P : Member M → Type 0 = λ o. n < o.number in
       grind (arith, nat_tests, All-head P m ms all, none_above n ms (All-tail P m ms all))
 
-  -- what is so of whoever has a number is so of all
+  -- what is so of each member with a number is so of all
   pub all_found : (P : Member M → Type 0) (ms : List (Member M)) → IsRising ms → ((n : ℕ) (m : Member M) → find n ms ≡ Some m → P m) → All P ms
   all_found P [] r h = All-nil P
   all_found P (m ∷ ms) r h =
@@ -52,7 +52,7 @@ module _ {M : Type 0} where
       let above = find_passes (λ (q : Member M). m.number < q.number) n ms r.0 o e in
       h n o (grind (arith, nat_tests, above, find_number n ms o e, e))))
 
-  -- an edit of those above a number that brings nobody below it leaves all above it
+  -- an edit of those above a number that brings no member below it leaves all above it
   still_above : (n : ℕ) (old new : List (Member M)) → All (λ q. n < q.number) old → IsRising new
       → ((k : ℕ) → k ≤ n → find k old ≡ None → find k new ≡ None) → All (λ q. n < q.number) new
   still_above n old new above r fewer =
@@ -61,7 +61,7 @@ module _ {M : Type 0} where
       = λ le. none_above k old (All-weaker (λ (q : Member M). n < q.number) (λ q. k < q.number) (λ q lt. omega (arith, lt, le)) old above) in
       grind (arith, find_number k new q e, e, none, fewer k))
 
-  -- look-ups tell a rising list
+  -- look-ups determine a rising list
   pub rising_same : (xs ys : List (Member M)) → IsRising xs → IsRising ys → ((n : ℕ) → find n xs ≡ find n ys) → xs ≡ ys
   rising_same [] [] r s h = refl
   rising_same [] (y ∷ ys) r s h = let e = h y.number in absurd (grind (arith, nat_tests, e))
@@ -83,7 +83,7 @@ module _ {M : Type 0} where
     rising = rises;
   }
 
-  -- what all pass, all pass then, if whoever has the number does
+  -- what all pass, all pass then, if the member with the number does
   pub all_after : {n : ℕ} {f : Option (Member M) → Option (Member M)} {old new : List (Member M)} → IsFoundAfter n f old new → IsRising old
       → (P : Member M → Type 0) → All P old → ((m : Member M) → f (find n old) ≡ Some m → P m) → All P new
   all_after {n} {f} {old} {new} found r P all here =
@@ -129,7 +129,7 @@ module _ {M : Type 0} where
     pub length_placed : (ms : List (Member M)) → length (placed new ms) ≡ length ms + 1
     length_placed ms = omega (arith, count_placed (λ _. true) ms, count_all ms, count_all (placed new ms))
 
-    -- where nobody has its number
+    -- if no member has its number
     find_placed : (ms : List (Member M)) → find new.number ms ≡ None → (k : ℕ) → find k (placed new ms) ≡ cond (new.number == k) (Some new) (find k ms)
     find_placed [] fresh k = refl
     find_placed (o ∷ ms) fresh k = grind (arith, nat_tests, fresh, λ (h : find new.number ms ≡ None). find_placed ms h k)

@@ -52,7 +52,7 @@ module _ {M : Type 0} where
   ready_some None some = absurd (omega (arith, some))
   ready_some (Some m) some = grind (arith, cases_Bool (is_ready m), some)
 
-  -- the order has whoever is ready once, and nobody else
+  -- the order has each ready member once, and no other one
   module _ (ms : List (Member M)) (order : List ℕ) (s : AreInOrder ms order) (n : ℕ) where
     at_number : count_by (λ k. k == n) order ≡ ready_of (find n ms)
     at_number = s.ordered (λ k. k == n) ∙ counted_at n ms s.rising
@@ -84,7 +84,7 @@ module _ {M : Type 0} where
       at : m.number ≡ n
       at = find_number n ms m found
 
-      -- how many ready ones pass a test, where a is its readiness before and b after
+      -- how many ready ones pass a test: a is its readiness before and b after
       moved : (a b : Bool) → is_ready m ≡ a → is_ready (f m) ≡ b → (p : ℕ → Bool)
           → count_by (λ m. is_ready m && p m.number) (altered n f ms) + cond (a && p n) 1 0 ≡ count_by p order + cond (b && p n) 1 0
       moved a b was is p =
@@ -137,7 +137,7 @@ module _ {M : Type 0} where
   inside_at n ms m found = ap inside_of found
 
   module _ {n : ℕ} {f : Option (Member M) → Option (Member M)} {old new : List (Member M)} (edit : IsFoundAfter n f old new) where
-    -- the number is where it was
+    -- the number is at its place as before
     pub inside_same : is_inside_at old n ≡ is_inside_at new n → (order : List ℕ) → filter (is_inside_at old) order ≡ filter (is_inside_at new) order
     inside_same same order =
         filter_agree (is_inside_at old) (is_inside_at new) (λ k. elim (cases_eq k n) [

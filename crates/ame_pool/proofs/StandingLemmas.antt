@@ -1,4 +1,4 @@
--- What a member's standing tells, and what a turn makes of it.
+-- The facts of a member's standing, and the standing after a turn.
 use Rattle.std.proofs.Common.{◌≡◌, ◌≤◌, ℕ, Bool, true, false, refl, arith}
 use Rattle.ame_pool.proofs.Words.{Member, Standing, Transition, is_ready, is_busy, rolled, settled, is_touched, stirred, is_waiting_for, untouched, is_away, after_transition, is_readied}
 use Rattle.ame_pool.proofs.MemberLemmas.{standing_is}
@@ -21,7 +21,7 @@ pub settled_untouched : (s : Standing) → untouched (settled s) ≡ untouched s
 settled_untouched s = grind (arith, standing_is s)
 
 module _ {M : Type 0} where
-  -- a turn keeps the number and no more than eight rollbacks, and who isn't ready is ready then where the turn says so
+  -- a turn keeps the number and no more than eight rollbacks, and who isn't ready is ready then if the turn says so
   pub record IsTurn (to : Transition M) (m : Member M) : Type 0 where
     pub number : (after_transition to m).number ≡ m.number
     pub few : m.rollbacks ≤ 8 → (after_transition to m).rollbacks ≤ 8

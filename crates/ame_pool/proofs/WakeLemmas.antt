@@ -1,4 +1,4 @@
--- What a write to a location changes.
+-- The changes that a write to a location makes.
 use Rattle.std.proofs.Common.{◌==◌, ◌≡◌, ◌<◌, ◌≤◌, ℕ, Bool, true, false, cond, List, [], ◌∷◌, ◌++◌, map, Option, Some, None, IsSomeAnd, IsTrue, refl, sym, ap, ◌∙◌, arith}
 use Rattle.std.specs.List.{All}
 use Rattle.ame_pool.proofs.Words.{cases_Bool, Member, Standing, Watch, IsRising, find, altered, untouched, lists, waits_for, has, touched_by, stirred, stirred_by, is_waiting_for, is_woken_by, woken_by, Roster, IsAt, woken, is_watching, is_woken_at, stirred_at, IsWatched, false≢true, count_by, BTreeSet, nat_tests, append-nil, append_assoc, All-head, All-tail}
@@ -63,7 +63,7 @@ module _ {M : Type 0} (l : ℕ) where
             both ms ∙ rest ∙ ap (λ q. cond (is_woken_by l m) (n ∷ []) [] ++ q) (sym (both (altered n (stirred_by l) ms)))
       ] refl found
 
-  -- a write that nobody watches changes nothing
+  -- a write that no member watches changes nothing
   calm_all : (ms : List (Member M)) → All (λ m. is_watching l m ≡ false) ms → (map (stirred_by l) ms ≡ ms) × (woken_by l ms ≡ [])
   calm_all [] h = (refl, refl)
   calm_all (m ∷ ms) h =

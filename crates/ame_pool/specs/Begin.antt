@@ -26,13 +26,13 @@ module _ {M : Type 0} where
   abbrev pub some_busy : (Member M → Bool) → List (Member M) → Bool
   some_busy kind ms = list_any (λ m. is_busy m && kind m) ms
 
-  -- A ready member may begin: inside always; an exhausted one where no protected member is busy; else where
+  -- A ready member may begin: inside always; an exhausted one if no protected member is busy; otherwise if
   -- no exhausted one is busy or older.
   abbrev pub may_begin_beside : Bool → Bool → Bool → Member M → Bool
   may_begin_beside protected_busy exhausted_busy exhausted_older m =
       cond m.inside true (cond (is_exhausted m) (not protected_busy) (not exhausted_busy && not exhausted_older))
 
-  -- a ready member may begin, where these ready ones are older
+  -- a ready member may begin, if these ready ones are older
   abbrev pub may_begin : List (Member M) → List (Member M) → Member M → Bool
   may_begin ms older m =
       may_begin_beside (some_busy is_protected ms) (some_busy is_exhausted_protected ms) (list_any is_exhausted_protected older) m

@@ -1,4 +1,4 @@
--- What each call makes of a pool.
+-- The pool that each call leaves.
 use Rattle.std.specs.Prelude.{ℕ, ◌-◌, ◌==◌, Bool, false, cond, List, [], ◌∷◌, ◌++◌, map, Option, Some, None, is_some, is_none, option_map, IsSomeAnd, IsTrue, max}
 use Rattle.ame_pool.specs.declared.member.Member.{Member}
 use Rattle.ame_pool.specs.declared.member.Standing.{Standing}
@@ -30,11 +30,11 @@ module _ {M : Type 0} where
   abbrev pub renewed : M → Bool → Member M → Member M
   renewed machine inside m = record { number = m.number; machine = machine; inside = inside; rollbacks = 0; standing = Standing.Ready }
 
-  -- noted as stuck on these locations, none of which was touched since
+  -- noted as stuck on these locations, untouched since
   abbrev pub noted_on : List ℕ → Member M → Member M
   noted_on locs m = record m { rollbacks = 0; standing = Standing.Busy (Some (record { locs = locs; touched = false })) }
 
-  -- parked, or ready where its watch was touched
+  -- parked, or ready if its watch was touched
   abbrev pub at_rest : Member M → Member M
   at_rest m = record m { standing = settled m.standing }
 
@@ -51,7 +51,7 @@ module _ {M : Type 0} where
   abbrev pub is_noted : Member M → Bool
   is_noted m = elim m.standing [ Standing.Ready ↦ false | Standing.Busy w ↦ is_some w | Standing.Parked _ ↦ false ]
 
-  -- ---- what is told
+  -- ---- answers
   abbrev pub machine_of : ℕ → Roster M → Option M
   machine_of number s = option_map (λ m. m.machine) (find number s.members)
 
@@ -89,7 +89,7 @@ module _ {M : Type 0} where
   abbrev pub noted : ℕ → List ℕ → Roster M → Roster M
   noted number locs s = record s { members = altered number (noted_on locs) s.members }
 
-  -- a noted member is parked, or the youngest ready one where its watch was touched
+  -- a noted member is parked, or the youngest ready one if its watch was touched
   abbrev pub parked : ℕ → Roster M → Roster M
   parked number s = record s {
     members = altered number at_rest s.members;

@@ -1,4 +1,4 @@
--- How many members are busy or parked.
+-- The counts of members that are busy or parked.
 use Rattle.std.specs.Prelude.{◌≡◌, ◌+◌, ◌≤◌, ◌&&◌, Bool, cond, List, count_by, nat_lt}
 use Rattle.ame_pool.specs.declared.member.Member.{Member}
 use Rattle.ame_pool.specs.declared.oldest.Oldest.{Oldest}
@@ -6,7 +6,7 @@ use Rattle.ame_pool.specs.declared.counts.Counts.{Counts}
 use Rattle.ame_pool.specs.Members.{is_busy, is_parked}
 use Rattle.ame_pool.specs.Begin.{is_protected, is_exhausted_protected}
 
--- why none begins where none is ready
+-- why none begins if none is ready
 abbrev pub idle : Counts → Oldest
 idle c = cond (nat_lt 0 c.busy) Oldest.Wait (cond (nat_lt 0 c.parked) Oldest.Parked Oldest.Empty)
 

@@ -1,4 +1,4 @@
--- Who has which number after an edit of a list of members.
+-- The members that have a number after an edit of a list of members.
 use Rattle.std.specs.Prelude.{◌≡◌, ◌≢◌, ℕ, List, Option}
 use Rattle.ame_pool.specs.declared.member.Member.{Member}
 use Rattle.ame_pool.specs.Members.{IsRising, find}

@@ -1,4 +1,4 @@
--- Who watches which location.
+-- The index of members that watch locations.
 use Rattle.std.specs.Prelude.{◌≡◌, ◌≢◌, ℕ, ◌==◌, Bool, true, false, cond, List, [], Option, Some, None}
 use Rattle.std.specs.BTreeSet.{BTreeSet}
 use Rattle.std.specs.BTreeSet.{contains}
@@ -23,7 +23,7 @@ lists index l n = contains pair_cmp index (l, n)
 abbrev pub among : ℕ → List Loc → Bool
 among k locs = list_any (λ l. l.0 == k) locs
 
--- the index lists the number at the locations that pass, and each other number where it did
+-- the index lists the number at the locations that pass, and each other number as it did
 pub record IsListedAfter (number : ℕ) (test : ℕ → Bool) (old new : BTreeSet (ℕ × ℕ)) : Type 0 where
   pub here : (k : ℕ) → lists new k number ≡ test k
   pub others : (k n : ℕ) → n ≢ number → lists new k n ≡ lists old k n

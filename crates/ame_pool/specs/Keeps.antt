@@ -1,4 +1,4 @@
--- What is so of each pool.
+-- The invariants of a pool.
 use Rattle.std.specs.Prelude.{◌≡◌, ℕ, ◌+◌, ◌≤◌, ◌<◌, ◌^◌, ◌&&◌, Bool, false, List, length, filter, All, Some, None, count_by}
 use Rattle.std.specs.BTreeSet.{BTreeSet}
 use Rattle.ame_pool.specs.Index.{IsIndexOf}

@@ -9,7 +9,7 @@ pub mod Roster
 pub mod Begin
 pub mod Calls
 pub mod Turns
-pub mod Line
+pub mod Queue
 pub mod Queues
 pub mod Counts
 pub mod Stirs

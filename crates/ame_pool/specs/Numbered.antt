@@ -43,7 +43,7 @@ module _ {M : Type 0} where
   behind None ms = ms
   behind (Some m) ms = m ∷ ms
 
-  -- the members that the entries lead to; an entry is stale where its slot has no member with its number
+  -- the members that the entries lead to; an entry is stale if its slot has no member with its number
   abbrev pub members_at : (ℕ → Option (Member M)) → List Numbered → List (Member M)
   members_at at [] = []
   members_at at (e ∷ es) = behind (only e.number (at e.key)) (members_at at es)

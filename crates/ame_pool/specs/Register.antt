@@ -1,4 +1,4 @@
--- What contracts see of the members.
+-- The members, as contracts see them.
 use Rattle.std.specs.Prelude.{ℕ, List, []}
 use Rattle.ame_pool.specs.declared.member.Member.{Member}
 

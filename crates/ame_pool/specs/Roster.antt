@@ -1,4 +1,4 @@
--- What contracts see of a pool.
+-- The pool, as contracts see it.
 use Rattle.std.specs.Prelude.{ℕ, List, []}
 use Rattle.ame_pool.specs.declared.member.Member.{Member}
 

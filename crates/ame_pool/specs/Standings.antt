@@ -1,4 +1,4 @@
--- What a member does by itself.
+-- The standings of a member by itself.
 use Rattle.std.specs.Prelude.{ℕ, ◌+◌, Bool, false, cond, Some, None, min}
 use Rattle.ame_pool.specs.declared.member.Standing.{Standing}
 
@@ -6,11 +6,11 @@ use Rattle.ame_pool.specs.declared.member.Standing.{Standing}
 abbrev pub max_rollbacks : ℕ
 max_rollbacks = 8
 
--- one rollback more, up to so many, or none
+-- one rollback more, up to the limit, or none
 abbrev pub rolled : Bool → ℕ → ℕ
 rolled rolled_back rollbacks = cond rolled_back (min max_rollbacks (rollbacks + 1)) rollbacks
 
--- what a watch becomes once its member is at rest: a list to park on, or nothing where it was touched
+-- what a watch becomes once its member is at rest: a list to park on, or nothing if it was touched
 abbrev pub settled : Standing → Standing
 settled Standing.Ready = Standing.Ready
 settled (Standing.Busy None) = Standing.Busy None

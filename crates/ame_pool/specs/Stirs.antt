@@ -1,4 +1,4 @@
--- What a write to a location makes of one member that watches it.
+-- The effect of a write to a location on one member that watches it.
 use Rattle.std.specs.Prelude.{ℕ, Bool, false, cond, [], ◌∷◌, ◌++◌, Some, None}
 use Rattle.ame_pool.specs.declared.member.Member.{Member}
 use Rattle.ame_pool.specs.Members.{find, altered}

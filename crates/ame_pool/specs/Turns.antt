@@ -1,4 +1,4 @@
--- What becomes of one member, and of the pool with it.
+-- The turns of one member, and of the pool with it.
 use Rattle.std.specs.Prelude.{ℕ, Bool, true, false, not, cond, [], ◌∷◌, ◌++◌, Some, None}
 use Rattle.ame_pool.specs.declared.member.Member.{Member}
 use Rattle.ame_pool.specs.declared.turn.Transition.{Transition}
@@ -35,7 +35,7 @@ module _ {M : Type 0} where
   abbrev pub is_readied_at : ℕ → Transition M → Roster M → Bool
   is_readied_at number to s = elim (find number s.members) [ None ↦ false | Some m ↦ is_readied to m ]
 
-  -- the member with the number after a turn, and the youngest ready one where that makes it ready
+  -- the member with the number after a turn, and the youngest ready one if that makes it ready
   abbrev pub turned_at : ℕ → Transition M → Roster M → Roster M
   turned_at number to s = record s {
     members = altered number (after_transition to) s.members;

@@ -1,4 +1,4 @@
--- What a write to a location changes.
+-- The changes that a write to a location makes.
 use Rattle.std.specs.Prelude.{ℕ, ◌==◌, Bool, true, false, cond, List, map, filter, Some, None}
 use Rattle.std.specs.List.{list_any}
 use Rattle.ame_pool.specs.declared.member.Member.{Member}

@@ -1,4 +1,4 @@
-//! How many members are busy or parked.
+//! The counts of members that are busy or parked.
 
 ghost use Rattle.std.specs.Prelude.{◌≡◌, ◌+◌, ◌<◌, ◌&&◌, ◌^◌, false, nat_lt, not};
 ghost use Rattle.ame_pool.specs.Begin.{is_protected, is_exhausted_protected, may_begin_beside};
@@ -7,7 +7,7 @@ ghost use Rattle.ame_pool.specs.Members.{is_busy, is_parked};
 use crate::member::{Member, ROLLBACK_LIMIT, Standing};
 use crate::oldest::Oldest;
 
-/// Of the busy members all, the protected ones and those of these with 8 rollbacks, and the parked members.
+/// Counts the busy members, the protected ones among them, those of these with 8 rollbacks, and the parked members.
 #[derive(Drop)]
 pub struct Counts {
     pub busy: usize,
@@ -45,7 +45,7 @@ impl<M> Member<M> {
 impl Counts {
     ghost use Rattle.ame_pool.specs.Counts.{counted, CountsIn, idle};
 
-    /// Of no member.
+    /// Returns the counts of no member.
     pub fn new() -> Counts
         ensures { result ≡ record { busy = 0; protected = 0; exhausted = 0; parked = 0 } }
     {
@@ -57,7 +57,7 @@ impl Counts {
         }
     }
 
-    /// One member more.
+    /// Counts one member more.
     pub fn enter<M>(&mut self, member: &Member<M>)
         requires busy { self.old.busy < 2 ^ 63 }
         requires protected { self.old.protected < 2 ^ 63 }
@@ -73,7 +73,7 @@ impl Counts {
         self.parked += member.is_parked() as usize;
     }
 
-    /// One member less.
+    /// Counts one member less.
     pub fn leave<M>(&mut self, member: &Member<M>)
         requires { CountsIn member.now self.old }
         ensures { self.old ≡ counted member.now self.new }
@@ -86,7 +86,7 @@ impl Counts {
         self.parked -= member.is_parked() as usize;
     }
 
-    /// Why none begins where none is ready.
+    /// Returns why none begins if none is ready.
     pub fn idle(&self) -> Oldest
         ensures { result ≡ idle self.now }
     {
@@ -99,14 +99,14 @@ impl Counts {
         }
     }
 
-    /// Whether no busy member keeps the oldest ready one from beginning, whoever that is.
+    /// Returns whether no busy member keeps the oldest ready one from beginning, whichever member that is.
     pub fn let_all_begin(&self) -> bool
         ensures { result ≡ not (nat_lt 0 self.now.protected) && not (nat_lt 0 self.now.exhausted) }
     {
         self.protected == 0 && self.exhausted == 0
     }
 
-    /// Whether the oldest ready member may begin.
+    /// Returns whether the oldest ready member may begin.
     pub fn may_begin<M>(&self, member: &Member<M>) -> bool
         ensures { result ≡ may_begin_beside (nat_lt 0 self.now.protected) (nat_lt 0 self.now.exhausted) false member.now }
     {

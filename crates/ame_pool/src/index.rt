@@ -1,4 +1,4 @@
-//! Who watches which location: the index, a set of pairs of a location and the number of a member that watches it.
+//! The index of members that watch locations: a set of pairs of a location and the number of a member that watches it.
 
 ghost use Rattle.std.specs.Prelude.{◌≡◌, ◌≤◌, ◌==◌, ◌&&◌, ◌||◌, ℕ, true, false, not, cond, IsTrue, IfSome, IfNone, OnOk, OnErr};
 ghost use Rattle.ame_pool.specs.Index.{lists, among, IsListedAfter, IsBetween};
@@ -7,7 +7,7 @@ use crate::member::is_among;
 use ame_term::{Loc, NoMemory};
 use std::collections::BTreeSet;
 
-/// The least number that watches a location.
+/// Returns the least number that watches a location.
 pub fn first(index: &BTreeSet<(u32, u64)>, l: Loc) -> Option<u64>
     ensures some { IfSome result (λ n. IsTrue (lists index.now l.0 n)) }
     ensures least { IfSome result (λ n. (m : ℕ) → IsTrue (lists index.now l.0 m) → n ≤ m) }
@@ -19,7 +19,7 @@ pub fn first(index: &BTreeSet<(u32, u64)>, l: Loc) -> Option<u64>
     }
 }
 
-/// One more watcher. A refusal changes nothing.
+/// Adds a watcher. A refusal changes nothing.
 fn add(index: &mut BTreeSet<(u32, u64)>, l: Loc, number: u64) -> Result<(), NoMemory>
     ensures ok { OnOk result (IsListedAfter number (λ k. cond (l.0 == k) true (lists index.old k number)) index.old index.new) }
     ensures err { OnErr result ((k n : ℕ) → lists index.new k n ≡ lists index.old k n) }
@@ -30,14 +30,14 @@ fn add(index: &mut BTreeSet<(u32, u64)>, l: Loc, number: u64) -> Result<(), NoMe
     }
 }
 
-/// One watcher less.
+/// Removes a watcher.
 fn drop_one(index: &mut BTreeSet<(u32, u64)>, l: Loc, number: u64)
     ensures { IsListedAfter number (λ k. cond (l.0 == k) false (lists index.old k number)) index.old index.new }
 {
     index.remove(&(l.0, number));
 }
 
-/// The member with this number watches these locations too. Where memory is wanted, some of them may have been added.
+/// Adds these locations to those that the member with this number watches. Out of memory, it may have added some of them.
 pub fn watch(index: &mut BTreeSet<(u32, u64)>, number: u64, locs: &[Loc]) -> Result<(), NoMemory>
     ensures ok { OnOk result (IsListedAfter number (λ k. among k locs.now || lists index.old k number) index.old index.new) }
     ensures err { OnErr result (IsBetween number locs.now index.old index.new) }
@@ -48,7 +48,7 @@ pub fn watch(index: &mut BTreeSet<(u32, u64)>, number: u64, locs: &[Loc]) -> Res
     Ok(())
 }
 
-/// The member with this number no longer watches these locations, but for those that are kept.
+/// Removes these locations, but for those that are kept, from those that the member with this number watches.
 pub fn unwatch(index: &mut BTreeSet<(u32, u64)>, number: u64, gone: &[Loc], kept: &[Loc])
     ensures { IsListedAfter number (λ k. not (among k gone.now && not (among k kept.now)) && lists index.old k number) index.old index.new }
 {

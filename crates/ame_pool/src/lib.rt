@@ -3,14 +3,14 @@
 
 mod counts;
 mod index;
-mod line;
 mod member;
 mod members;
 mod numbers;
 mod oldest;
 mod pool;
+mod queue;
 mod ready;
-mod roll;
+mod registry;
 mod theorems;
 mod turn;
 

@@ -8,7 +8,7 @@ ghost use Rattle.ame_pool.specs.Standings.{rolled};
 use ame_term::{Loc, Locs};
 use std::mem;
 
-/// How often a member is rolled back before it begins alone.
+/// A member that was rolled back this often begins alone.
 pub const ROLLBACK_LIMIT: u8 = 8;
 
 /// A fragment that isn't at its end.
@@ -17,14 +17,14 @@ pub struct Member<M> {
     pub number: u64,
     /// The machine at rest; of a busy member, the start from which its seat runs.
     pub machine: M,
-    /// Whether it stands inside `unprotected`.
+    /// True if it stands inside `unprotected`.
     pub inside: bool,
-    /// How often it was rolled back since its last entry, up to `ROLLBACK_LIMIT`.
+    /// The number of its rollbacks since its last entry, up to `ROLLBACK_LIMIT`.
     pub rollbacks: u8,
     pub standing: Standing,
 }
 
-/// What a member is doing.
+/// The standing of a member.
 #[derive(Drop)]
 pub enum Standing {
     Ready,
@@ -34,15 +34,15 @@ pub enum Standing {
     Parked(Locs),
 }
 
-/// What a busy member that was noted as stuck waits for.
+/// The locations for which a busy member waits that was noted as stuck.
 #[derive(Drop)]
 pub struct Watch {
     pub locs: Locs,
-    /// Whether one of the locations was written since.
+    /// True if one of the locations was written since.
     pub touched: bool,
 }
 
-/// Rollbacks after a way home.
+/// Returns the number of rollbacks after a way home.
 fn rolled_on(rolled_back: bool, rollbacks: u8) -> u8
     ensures { result ≡ rolled rolled_back rollbacks }
 {
@@ -55,14 +55,14 @@ fn rolled_on(rolled_back: bool, rollbacks: u8) -> u8
     }
 }
 
-/// Whether the location is among these.
+/// Returns whether the location is among these.
 pub fn is_among(locs: &[Loc], l: Loc) -> bool
     ensures { result ≡ list_any (λ k. k.0 == l.0) locs.now }
 {
     locs.iter().any(|k| k.0 == l.0)
 }
 
-/// Whether a watch list has the location.
+/// Returns whether a watch list has the location.
 fn is_listed(locs: &Locs, l: Loc) -> bool
     ensures { result ≡ has l.0 locs.now }
 {
@@ -73,7 +73,7 @@ impl Standing {
     ghost use Rattle.ame_pool.specs.Standings.{settled, is_touched};
     ghost use Rattle.ame_pool.specs.Waking.{stirred, is_waiting_for};
 
-    /// A watch that isn't touched parks its member, and a touched one makes it ready; the answer tells whether it did.
+    /// Parks the member if its watch isn't touched, and makes it ready if it is; returns whether it made it ready.
     fn settle(&mut self) -> bool
         ensures standing { self.new ≡ settled self.old }
         ensures touched { result ≡ is_touched self.old }
@@ -92,8 +92,8 @@ impl Standing {
         }
     }
 
-    /// A write to a location makes a parked member ready that waits for it, and touches the watch of a busy one;
-    /// the answer tells whether it made one ready.
+    /// Lets the member know that a location was written: a parked one that waits for it is ready, and the watch of a busy one is
+    /// touched. Returns whether it made one ready.
     fn stir(&mut self, l: Loc) -> bool
         ensures standing { self.new ≡ stirred l.0 self.old }
         ensures woken { result ≡ is_waiting_for l.0 self.old }
@@ -119,7 +119,7 @@ impl Standing {
 }
 
 impl<M: Drop> Member<M> {
-    /// The locations whose write changes it.
+    /// Returns the locations whose write changes it.
     pub fn untouched(&self) -> &[Loc]
         ensures { map (λ l. l.0) result.now ≡ untouched_of self.now.standing }
     {
@@ -142,14 +142,14 @@ impl<M: Drop> Member<M> {
     ghost use Rattle.ame_pool.specs.Index.{untouched as untouched_of};
     ghost use Rattle.ame_pool.specs.Calls.{begun, at_home, renewed, noted_on, at_rest};
 
-    /// A seat runs it.
+    /// Makes it busy: a seat runs it.
     pub fn begin(&mut self)
         ensures { self.new ≡ begun self.old }
     {
         self.standing = Standing::Busy(None);
     }
 
-    /// Ready again.
+    /// Makes it ready again.
     pub fn go_home(&mut self, rolled_back: bool)
         ensures { self.new ≡ at_home rolled_back self.old }
     {
@@ -157,7 +157,7 @@ impl<M: Drop> Member<M> {
         self.standing = Standing::Ready;
     }
 
-    /// Ready with another machine, in place of the one that it gives.
+    /// Makes it ready with another machine, and returns the one that it had.
     pub fn renew(&mut self, machine: M, inside: bool) -> M
         ensures member { self.new ≡ renewed machine inside self.old }
         ensures machine { result ≡ self.old.machine }
@@ -168,7 +168,7 @@ impl<M: Drop> Member<M> {
         mem::replace(&mut self.machine, machine)
     }
 
-    /// Noted as stuck on these locations.
+    /// Notes it as stuck on these locations.
     pub fn watch(&mut self, locs: Locs)
         ensures { self.new ≡ noted_on locs self.old }
     {
@@ -179,7 +179,7 @@ impl<M: Drop> Member<M> {
         }));
     }
 
-    /// Parked, or ready where its watch was touched, which the answer tells.
+    /// Parks it, or makes it ready if its watch was touched; returns whether it was.
     pub fn settle(&mut self) -> bool
         ensures member { self.new ≡ at_rest self.old }
         ensures touched { result ≡ is_touched self.old.standing }
@@ -187,7 +187,7 @@ impl<M: Drop> Member<M> {
         self.standing.settle()
     }
 
-    /// A location was written; the answer tells whether this member was woken.
+    /// Lets it know that a location was written, and returns whether that woke it.
     pub fn stir(&mut self, l: Loc) -> bool
         ensures member { self.new ≡ stirred_by l.0 self.old }
         ensures woken { result ≡ is_woken_by l.0 self.old }

@@ -14,7 +14,7 @@ use slab::Slab;
 use std::alloc::Global;
 use std::marker::Model;
 
-/// What a member's turn tells: its slot, what the turn left, and whether the member stands inside then.
+/// The result of a member's turn: its slot, what the turn left, and whether the member stands inside then.
 #[derive(Drop)]
 pub struct Turned<M> {
     pub slot: usize,
@@ -44,7 +44,7 @@ impl<M> Model for Members<M> {
     ghost invariant = { λ a. AreNumberedSlots a.slots a.numbers a.room };
 }
 
-/// The member in a slot, if it has the number.
+/// Returns the member in a slot, if it has the number.
 fn member_in<M>(slots: &Slab<Member<M>>, number: u64, key: usize) -> Option<&Member<M>>
     ensures { option_copied result ≡ only number (get slots.now key) }
 {
@@ -60,14 +60,14 @@ fn member_in<M>(slots: &Slab<Member<M>>, number: u64, key: usize) -> Option<&Mem
     }
 }
 
-/// Whether an entry leads to a member with its number.
+/// Returns whether an entry leads to a member with its number.
 fn is_live<M>(slots: &Slab<Member<M>>, entry: Numbered) -> bool
     ensures { result ≡ is_some (only entry.number (get slots.now entry.key)) }
 {
     member_in(slots, entry.number, entry.key).is_some()
 }
 
-/// The slot of the member with a number that is there.
+/// Returns the slot of the member with a number that is there.
 fn slot_in<M>(slots: &Slab<Member<M>>, numbers: &Vec<Numbered>, number: u64) -> usize
     requires rising { AreRising numbers.now.items }
     requires there { IsSome (find number (members_at (get slots.now) numbers.now.items)) }
@@ -95,7 +95,7 @@ impl<M: Drop> Members<M> {
     ghost use Rattle.ame_pool.specs.Turns.{after_transition, is_readied};
     ghost use Rattle.ame_pool.specs.Register.{vacant};
 
-    /// No members. It takes no memory.
+    /// Makes a list without members. It takes no memory.
     pub fn new(alloc: Global) -> Members<M>
         ensures { result ≡ vacant }
     {
@@ -121,14 +121,14 @@ impl<M: Drop> Members<M> {
         Ok(())
     }
 
-    /// How many may join without memory.
+    /// Returns how many may join without memory.
     pub fn places(&self) -> usize
         ensures { result ≡ self.now.room }
     {
         self.room
     }
 
-    /// The member with a number, if there is one.
+    /// Returns the member with a number, if there is one.
     pub fn get(&self, number: u64) -> Option<&Member<M>>
         ensures { option_copied result ≡ find number self.now.list }
     {
@@ -138,7 +138,7 @@ impl<M: Drop> Members<M> {
         }
     }
 
-    /// The member with a number that is there.
+    /// Returns the member with a number that is there.
     pub fn member(&self, number: u64) -> &Member<M>
         requires { IsSome (find number self.now.list) }
         ensures { Some result.now ≡ find number self.now.list }
@@ -149,7 +149,7 @@ impl<M: Drop> Members<M> {
         }
     }
 
-    /// The seat of a member, which no other one has meanwhile.
+    /// Returns the seat of a member, which no other one has meanwhile.
     pub fn slot(&self, number: u64) -> usize {
         match slot_of(self.numbers.as_slice(), number) {
             Some(key) => key,
@@ -157,7 +157,7 @@ impl<M: Drop> Members<M> {
         }
     }
 
-    /// One member more.
+    /// Adds a member.
     pub fn insert(&mut self, member: Member<M>)
         requires room { 0 < self.old.room }
         requires fresh { find member.number self.old.list ≡ None }
@@ -179,7 +179,7 @@ impl<M: Drop> Members<M> {
         self.slots.remove(key)
     }
 
-    /// A member's turn, after which it is counted as it is then. The member is looked for once.
+    /// Makes a member's turn, after which it is counted as it is then. The member is looked for once.
     pub fn turn(&mut self, number: u64, to: Transition<M>, counts: &mut Counts) -> Turned<M>
         requires there { IsSome (find number self.old.list) }
         requires counted { (m : Member M) → find number self.old.list ≡ Some m → CountsIn m counts.old }

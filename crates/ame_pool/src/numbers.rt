@@ -1,16 +1,16 @@
-//! Which number leads to which slot.
+//! The slots to which numbers lead.
 
 ghost use Rattle.std.specs.Prelude.{◌≡◌, ◌+◌, ◌<◌, ◌≤◌, Some, IsSome, IfSome, IfOk, IfErr, vec_len, vec_capacity};
 ghost use Rattle.ame_pool.specs.Numbered.{AreRising, IsEntryOf, IsEntryGap, key_of, filed};
 
-/// A number that was given, and the slot of its member. The entry is stale where that slot has no member with the number.
+/// A number that was given, and the slot of its member. The entry is stale if that slot has no member with the number.
 #[derive(Clone, Copy)]
 pub struct Numbered {
     pub number: u64,
     pub key: usize,
 }
 
-/// The place that the entry of a number has where each number from the first on has one.
+/// Returns the place that the entry of a number has if each number from the first on has one.
 fn near_place(numbers: &[Numbered], number: u64) -> Option<usize>
     ensures { IfSome result (IsEntryOf number numbers.now) }
 {
@@ -24,8 +24,8 @@ fn near_place(numbers: &[Numbered], number: u64) -> Option<usize>
     }
 }
 
-/// The place of the entry of a number, or else the place where it belongs. It takes the time of a logarithm at most, and is the same for
-/// all where no stale entry was dropped.
+/// Returns the place of the entry of a number, or otherwise the place at which it belongs. It takes the time of a logarithm at most, and
+/// the same for all numbers if no stale entry was dropped.
 fn place_of(numbers: &[Numbered], number: u64) -> Result<usize, usize>
     requires { AreRising numbers.now }
     ensures found { IfOk result (IsEntryOf number numbers.now) }
@@ -37,7 +37,7 @@ fn place_of(numbers: &[Numbered], number: u64) -> Result<usize, usize>
     }
 }
 
-/// The slot that the entry of a number leads to, if there is one.
+/// Returns the slot that the entry of a number leads to, if there is one.
 pub fn slot_of(numbers: &[Numbered], number: u64) -> Option<usize>
     requires { AreRising numbers.now }
     ensures { result ≡ key_of number numbers.now }
@@ -48,7 +48,7 @@ pub fn slot_of(numbers: &[Numbered], number: u64) -> Option<usize>
     }
 }
 
-/// The slot of a number that has an entry.
+/// Returns the slot of a number that has an entry.
 pub fn known_slot(numbers: &[Numbered], number: u64) -> usize
     requires rising { AreRising numbers.now }
     requires there { IsSome (key_of number numbers.now) }

@@ -10,18 +10,18 @@ ghost use Rattle.ame_pool.specs.Keeps.{IsWatched};
 use crate::index::{first, unwatch, watch};
 use crate::member::Member;
 use crate::oldest::Oldest;
-use crate::roll::Roll;
+use crate::registry::Registry;
 use crate::turn::Transition;
 use ame_term::{Copied, Loc, Locs, NoMemory};
 use std::alloc::Global;
 use std::collections::BTreeSet;
 use std::marker::Model;
 
-/// Who is there and who is ready, the index of those that watch locations, and a machine that isn't needed any more, in whose memory
-/// the next copy is made.
+/// The members that are there and those that are ready, the index of those that watch locations, and a machine that isn't needed any
+/// more, in whose memory the next copy is made.
 #[derive(Drop)]
 pub struct Pool<M> {
-    roll: Roll<M>,
+    registry: Registry<M>,
     index: BTreeSet<(u32, u64)>,
     spare: Option<M>,
 }
@@ -33,9 +33,9 @@ impl<M> Model for Pool<M> {
 
     ghost use Rattle.ame_pool.specs.Keeps.{IsWatched};
 
-    ghost view = { λ a. a.roll };
+    ghost view = { λ a. a.registry };
 
-    ghost invariant = { λ a. IsWatched a.roll a.index };
+    ghost invariant = { λ a. IsWatched a.registry a.index };
 }
 
 /// A copy of a member's machine, and whether the member stands inside `unprotected`.
@@ -45,7 +45,7 @@ pub struct MachineCopy<M> {
     pub inside: bool,
 }
 
-/// A copy of a machine, in the memory of a spare one where there is such.
+/// Returns a copy of a machine, in the memory of a spare one if there is one.
 fn copy_in<M: Drop + Copied>(spare: Option<M>, alloc: Global, resting: &M) -> Result<M, NoMemory>
     ensures { IfOk result (λ copy. M.same resting.now copy) }
 {
@@ -58,14 +58,14 @@ fn copy_in<M: Drop + Copied>(spare: Option<M>, alloc: Global, resting: &M) -> Re
     }
 }
 
-/// The index names a member nowhere any more. The member is looked for only where the index names any.
-fn unlist<M: Drop>(index: &mut BTreeSet<(u32, u64)>, roll: &Roll<M>, number: u64)
-    requires there { IsSome (found_at number roll.now.members) }
-    requires watched { IsWatched roll.now index.old }
+/// Removes a member from the index. The member is looked for only if the index names any.
+fn unlist<M: Drop>(index: &mut BTreeSet<(u32, u64)>, registry: &Registry<M>, number: u64)
+    requires there { IsSome (found_at number registry.now.members) }
+    requires watched { IsWatched registry.now index.old }
     ensures { IsListedAfter number (λ _. false) index.old index.new }
 {
     if !index.is_empty() {
-        unwatch(index, number, roll.member(number).untouched(), &[]);
+        unwatch(index, number, registry.member(number).untouched(), &[]);
     }
 }
 
@@ -77,12 +77,12 @@ impl<M: Drop> Pool<M> {
     ghost use Rattle.ame_pool.specs.Stirs.{is_watching, stirred_at};
     ghost use Rattle.ame_pool.specs.Calls.{IsAt, is_running, is_noted, with_room, joined, newcomer, held, home as homed, exchanged, removed, noted, parked, woken, machine_of, inside_of};
 
-    /// A pool without members. It takes no memory.
+    /// Makes a pool without members. It takes no memory.
     pub fn new(alloc: Global) -> Pool<M>
         ensures { result ≡ nobody }
     {
         Pool {
-            roll: Roll::new(alloc),
+            registry: Registry::new(alloc),
             index: BTreeSet::new(alloc),
             spare: None,
         }
@@ -93,27 +93,27 @@ impl<M: Drop> Pool<M> {
         ensures ok { OnOk result (self.new ≡ with_room places self.old) }
         ensures err { OnErr result (self.new ≡ self.old) }
     {
-        self.roll.room(places)
+        self.registry.room(places)
     }
 
-    /// A new member, the youngest ready one.
+    /// Adds a new member, the youngest ready one.
     pub fn add(&mut self, number: u64, machine: M, inside: bool)
         requires room { 0 < self.old.room }
         requires fresh { find number self.old.members ≡ None }
         ensures { self.new ≡ joined (newcomer number machine inside) self.old }
     {
-        self.roll.add(number, machine, inside);
+        self.registry.add(number, machine, inside);
     }
 
     /// Returns the member with a number, if the pool has one.
     pub fn member(&self, number: u64) -> Option<&Member<M>>
         ensures { option_copied result ≡ find number self.now.members }
     {
-        self.roll.get(number)
+        self.registry.get(number)
     }
 
-    /// A copy of the machine of a ready member, and whether it stands inside. It takes the memory of a machine in whose place another
-    /// one came, where there is such.
+    /// Returns a copy of the machine of a ready member, and whether it stands inside. It takes the memory of the spare machine, if there
+    /// is one.
     pub fn copy(&mut self, alloc: Global, number: u64) -> Result<MachineCopy<M>, NoMemory>
     where
         M: Copied,
@@ -123,7 +123,7 @@ impl<M: Drop> Pool<M> {
         ensures inside { IfOk result (λ copy. copy.inside ≡ is_inside_at self.old.members number) }
     {
         let spare = self.spare.take();
-        let member = self.roll.member(number);
+        let member = self.registry.member(number);
         let machine = copy_in(spare, alloc, &member.machine)?;
         Ok(MachineCopy {
             machine,
@@ -131,11 +131,11 @@ impl<M: Drop> Pool<M> {
         })
     }
 
-    /// Whether a member stands inside `unprotected`.
+    /// Returns whether a member stands inside `unprotected`.
     pub fn inside(&self, number: u64) -> Option<bool>
         ensures { result ≡ inside_of number self.now }
     {
-        match self.roll.get(number) {
+        match self.registry.get(number) {
             Some(member) => Some(member.inside),
             None => None,
         }
@@ -146,34 +146,43 @@ impl<M: Drop> Pool<M> {
         requires { IsAt is_ready number self.old }
         ensures { self.new ≡ held number self.old }
     {
-        self.roll.begin(number);
+        self.registry.begin(number);
     }
 
-    /// A busy member without a watch list is the youngest ready one.
+    /// Makes a busy member without a watch list the youngest ready one.
     pub fn home(&mut self, number: u64, rolled_back: bool)
         requires { IsAt is_running number self.old }
         ensures { self.new ≡ homed number rolled_back self.old }
     {
-        let _ = self.roll.turn(number, Transition::Home(rolled_back));
+        let _ = self.registry.turn(number, Transition::Home(rolled_back));
     }
 
-    /// A busy member is the youngest ready one, with another machine.
+    /// Makes a busy member the youngest ready one, with another machine.
     pub fn replace(&mut self, number: u64, machine: M, inside: bool)
         requires { IsAt is_busy number self.old }
         ensures { self.new ≡ exchanged number machine inside self.old }
     {
-        unlist(&mut self.index, &self.roll, number);
-        self.spare = self.roll.turn(number, Transition::Renew(machine, inside));
+        unlist(&mut self.index, &self.registry, number);
+        self.spare = self
+            .registry
+            .turn(number, Transition::Renew(machine, inside));
     }
 
-    /// A busy member leaves the pool.
+    /// Takes a busy member out of the pool, and returns its machine.
     pub fn remove(&mut self, number: u64) -> M
         requires { IsAt is_busy number self.old }
         ensures pool { self.new ≡ removed number self.old }
         ensures machine { Some result ≡ machine_of number self.old }
     {
-        unlist(&mut self.index, &self.roll, number);
-        self.roll.remove(number)
+        unlist(&mut self.index, &self.registry, number);
+        self.registry.remove(number)
+    }
+
+    /// Keeps a machine that isn't needed any more: the next copy is made in its memory.
+    pub fn keep_spare(&mut self, machine: M)
+        ensures { self.new ≡ self.old }
+    {
+        self.spare = Some(machine);
     }
 
     /// Notes a busy member as stuck: it watches these locations, and none of them was touched.
@@ -182,37 +191,44 @@ impl<M: Drop> Pool<M> {
         ensures ok { OnOk result (self.new ≡ noted number (map (λ l. l.0) locs.items) self.old) }
         ensures err { OnErr result (self.new ≡ self.old) }
     {
-        let member = self.roll.member(number);
+        let member = self.registry.member(number);
         if let Err(refusal) = watch(&mut self.index, number, locs.as_slice()) {
             unwatch(&mut self.index, number, locs.as_slice(), member.untouched());
             return Err(refusal);
         }
         unwatch(&mut self.index, number, member.untouched(), locs.as_slice());
         let _ = self
-            .roll
+            .registry
             .turn(number, Transition::Watch(Locs::from_vec(locs)));
         Ok(())
     }
 
-    /// A noted member is parked, or the youngest ready one where a location that it watches was touched.
+    /// Parks a noted member, or makes it the youngest ready one if a location that it watches was touched.
     pub fn park(&mut self, number: u64)
         requires { IsAt is_noted number self.old }
         ensures { self.new ≡ parked number self.old }
     {
-        let _ = self.roll.turn(number, Transition::Settle);
+        let _ = self.registry.turn(number, Transition::Settle);
     }
 
-    /// A location was written that this member watches.
+    /// Lets a member know that a location was written that it watches.
     fn stir(&mut self, number: u64, l: Loc)
         requires { IsAt (is_watching l.0) number self.old }
         ensures { self.new ≡ stirred_at l.0 number self.old }
     {
-        unlist(&mut self.index, &self.roll, number);
-        let _ = self.roll.turn(number, Transition::Stir(l));
+        unlist(&mut self.index, &self.registry, number);
+        let _ = self.registry.turn(number, Transition::Stir(l));
     }
 
-    /// A location was written: every parked member that waits for it is ready, in order of numbers, and every busy one
-    /// that watches it is touched.
+    /// Returns whether a member may watch a location. If none does, a write changes no member.
+    pub fn is_watched(&self) -> bool
+        ensures { result ≡ false → (l : ℕ) → woken l self.now ≡ self.now }
+    {
+        !self.index.is_empty()
+    }
+
+    /// Lets the members know that a location was written: every parked one that waits for it is ready, in order of numbers, and every
+    /// busy one that watches it is touched.
     pub fn wake(&mut self, l: Loc)
         ensures { self.new ≡ woken l.0 self.old }
     {
@@ -221,13 +237,13 @@ impl<M: Drop> Pool<M> {
         }
     }
 
-    /// The oldest ready member that may begin, or why there is none.
+    /// Returns the oldest ready member that may begin, or why there is none.
     pub fn oldest(&self) -> Oldest
         ensures oldest { result ≡ oldest_of self.now }
         ensures ready { (n : ℕ) → result ≡ Oldest.Member n → IsAt is_ready n self.now }
         ensures waits { result ≡ Oldest.Wait → IsTrue (list_any is_busy self.now.members) }
         ensures sound { AreInOrder self.now.members self.now.order }
     {
-        self.roll.oldest()
+        self.registry.oldest()
     }
 }

@@ -3,7 +3,7 @@
 ghost use Rattle.std.specs.Prelude.{◌≡◌, ◌+◌, ◌<◌, ◌≤◌, ◌==◌, ◌^◌, [], length, count_by, OnOk};
 ghost use Rattle.ame_pool.specs.Queues.{HasPlace, front, pushed, taken};
 
-use crate::line::Line;
+use crate::queue::Queue;
 use ame_term::NoMemory;
 use std::alloc::Global;
 use std::marker::Model;
@@ -11,8 +11,8 @@ use std::marker::Model;
 /// Their numbers, and apart from them the numbers of those that stand inside, in the same order.
 #[derive(Drop)]
 pub struct Ready {
-    order: Line,
-    inside: Line,
+    order: Queue,
+    inside: Queue,
 }
 
 impl Model for Ready {
@@ -29,15 +29,15 @@ impl Model for Ready {
 }
 
 impl Ready {
-    /// No member is ready.
+    /// Makes an order without members.
     pub fn new(alloc: Global) -> Ready
         ensures order { result.order ≡ [] }
         ensures inside { result.inside ≡ [] }
         ensures small { result.places < 2 ^ 63 }
     {
         Ready {
-            order: Line::new(alloc),
-            inside: Line::new(alloc),
+            order: Queue::new(alloc),
+            inside: Queue::new(alloc),
         }
     }
 
@@ -55,7 +55,7 @@ impl Ready {
         self.inside.room(inside_more)
     }
 
-    /// The youngest of them, at a seat.
+    /// Adds the youngest of them, at a seat.
     pub fn push(&mut self, number: u64, seat: usize, is_inside: bool)
         requires { HasPlace self.old }
         ensures { self.new ≡ pushed number is_inside self.old }
@@ -66,7 +66,7 @@ impl Ready {
         }
     }
 
-    /// One of them leaves its seat.
+    /// Takes one of them from its seat.
     pub fn take(&mut self, number: u64, seat: usize, is_inside: bool)
         requires order { count_by (λ n. n == number) self.old.order ≤ 1 }
         requires inside { count_by (λ n. n == number) self.old.inside ≤ 1 }
@@ -78,14 +78,14 @@ impl Ready {
         }
     }
 
-    /// The oldest.
+    /// Returns the oldest, if there is any.
     pub fn first(&self) -> Option<u64>
         ensures { result ≡ front self.now.order }
     {
         self.order.first()
     }
 
-    /// The oldest that stands inside.
+    /// Returns the oldest that stands inside, if one does.
     pub fn first_inside(&self) -> Option<u64>
         ensures { result ≡ front self.now.inside }
     {

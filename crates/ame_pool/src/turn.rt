@@ -1,4 +1,4 @@
-//! What becomes of a member.
+//! The turns of a member.
 
 ghost use Rattle.std.specs.Prelude.{◌≡◌};
 ghost use Rattle.ame_pool.specs.Turns.{after_transition, is_readied};
@@ -6,7 +6,7 @@ ghost use Rattle.ame_pool.specs.Turns.{after_transition, is_readied};
 use crate::member::Member;
 use ame_term::{Loc, Locs};
 
-/// What becomes of a member.
+/// A turn of a member.
 #[derive(Drop)]
 pub enum Transition<M> {
     /// A seat runs it.
@@ -17,20 +17,20 @@ pub enum Transition<M> {
     Renew(M, bool),
     /// It is noted as stuck on these locations.
     Watch(Locs),
-    /// It is parked, or ready where its watch was touched.
+    /// It is parked, or ready if its watch was touched.
     Settle,
     /// A location was written.
     Stir(Loc),
 }
 
-/// What a turn leaves: whether it made its member ready, and the machine in whose place another one came.
+/// The result of a turn: whether it made its member ready, and the machine that another one replaced.
 #[derive(Drop)]
 pub struct Left<M> {
     pub is_readied: bool,
     pub machine: Option<M>,
 }
 
-/// A turn that put no machine in place of another.
+/// Returns what a turn leaves that put no machine in place of another.
 fn kept<M>(is_readied: bool) -> Left<M>
     ensures { result.is_readied ≡ is_readied }
 {
@@ -41,7 +41,7 @@ fn kept<M>(is_readied: bool) -> Left<M>
 }
 
 impl<M: Drop> Member<M> {
-    /// What this leaves of it.
+    /// Makes a turn, and returns what it leaves.
     pub fn turn(&mut self, to: Transition<M>) -> Left<M>
         ensures member { self.new ≡ after_transition to self.old }
         ensures readied { result.is_readied ≡ is_readied to self.old }

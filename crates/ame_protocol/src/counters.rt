@@ -1,9 +1,9 @@
-//! What a runtime counts.
+//! The counters of a runtime.
 
 ghost use Rattle.std.specs.Prelude.{◌≡◌};
 ghost use Rattle.ame_protocol.specs.Event.Counting.{nothing_counted};
 
-/// How many events of each kind an engine counted. The first eleven are its turns.
+/// Counts the events of an engine by their kinds. The first eleven counts are its turns.
 #[derive(Clone, Copy, PartialEq, Eq, Debug)]
 pub struct Counters {
     pub begins: u32,
@@ -26,7 +26,7 @@ pub struct Counters {
 }
 
 impl Counters {
-    /// Nothing is counted yet.
+    /// Returns counters at zero.
     pub fn new() -> Counters
         ensures { result ≡ nothing_counted }
     {

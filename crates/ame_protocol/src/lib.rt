@@ -2,13 +2,11 @@
 //! throughout. A law is a lemma of `proofs/`.
 #![tactic(auto)]
 
-mod certificate;
 mod counters;
 mod stop;
 mod theorems;
 mod types;
 
-pub use certificate::Certificate;
 pub use counters::Counters;
 pub use stop::Stop;
 pub use theorems::events::{

@@ -56,8 +56,8 @@ ghost use Rattle.ame_protocol.specs.Bounds.Tries.{HasFewTries};
 ghost use Rattle.ame_protocol.specs.Bounds.FewRollbacks.{HasFewRollbacks};
 ghost use Rattle.ame_protocol.specs.Bounds.Spent.{paid, HasPaidTurns};
 
-/// A valid row whose run has ended: by the entry the member is gone, and once the seat's cells are released and
-/// show the store, all stands that stood before.
+/// Says that a valid row whose run has ended can be committed. By its entry the member is gone. Once the seat's cells are released and show
+/// the store, all facts hold that held before.
 pub fn ended_rows_commit()
     ensures { (signature : Signature) (types : StoreTyping) (old new : Heap) (seat : ℕ) (run : SeatRun) (r : Replayed) (entry : Entry) (n : ℕ) (p : LocalState)
         → Owes old seat run → AreValid old seat run.reads → IsScoped signature types old seat run → HasUsed run n p
@@ -67,7 +67,8 @@ pub fn ended_rows_commit()
         → (t : State) × (replay_entry r entry ≡ Some (staying r t)) × (ShowsStore new t.store → StandsAfterCommit signature types seat old new t) }
 {}
 
-/// A valid row whose run has come to `unprotected`: so it is, and the member is inside.
+/// Says that a valid row whose run has come to `unprotected` can be committed. Then the member is inside, and all facts hold that held
+/// before.
 pub fn left_rows_commit()
     ensures { (signature : Signature) (types : StoreTyping) (old new : Heap) (seat : ℕ) (run : SeatRun) (r : Replayed) (entry : Entry) (n : ℕ) (p : LocalState)
         → Owes old seat run → AreValid old seat run.reads → IsScoped signature types old seat run → HasUsed run n p
@@ -77,14 +78,14 @@ pub fn left_rows_commit()
         → (t : State) × (replay_entry r entry ≡ Some (entering r entry.number t)) × (ShowsStore new t.store → StandsAfterCommit signature types seat old new t) }
 {}
 
-/// After the cell of the last entry was let go the other entries are an undo log.
+/// Says that after an undo of the last entry the other entries are an undo log.
 pub fn undo_logs_stand_after_an_undo()
     ensures { (old new : Heap) (seat : ℕ) (undos : List (Undo Val)) (undo : Undo Val) (cell : Cell Val)
         → IsUndoLog old seat (undos ++ undo ∷ []) → BecomesAt old new (undo_place undo) cell → (IsOwnedBy seat cell → ⊥)
         → KeepsCommitted old new → IsUndoLog new seat undos }
 {}
 
-/// What unprotected code writes, or makes, is not watched.
+/// Says that no member watches a location that unprotected code writes or makes.
 pub fn unprotected_code_wakes_nobody()
     ensures writes { (heap : Heap) (seat : ℕ) (watched : List ℕ) (run : SeatRun) (n : ℕ) (p : LocalState) (l : ℕ)
         → IsWaiting heap seat watched run n p → (cell_at heap l).sort ≡ Sort.Unprotected → Contains watched l → ⊥ }
@@ -92,14 +93,14 @@ pub fn unprotected_code_wakes_nobody()
         → IsWaiting heap seat watched run n p → (IsCell heap l → ⊥) → Contains watched l → ⊥ }
 {}
 
-/// An engine that has just started a program that the types accept stands.
+/// Says that an engine that has just started a program stands for the program's first state, if the types accept the program.
 pub fn engines_start()
     ensures { (program : Tree) (signature : Signature) (limits : Limits) (room : ℕ)
         → IsAccepted signature program → Simulates (started program signature limits room) }
 {}
 
-/// The last note of a member that waits is a certificate in the state for which the engine stands. Where all members are
-/// parked each one has such a note, so that there is one certificate a member in order of numbers.
+/// Says that the last note of a waiting member is a certificate in the state for which the engine stands. If all members are parked, each
+/// one has such a note, so that there is one certificate a member in order of numbers.
 pub fn waiting_members_have_certificates()
     ensures waiting { (parts : Parts) (s : Simulates parts) (number : ℕ) (watched : List ℕ) → AreWaiting parts
         → watched_by number parts.pool ≡ Some watched → HasCertificate (whole_journal parts) s.r.state number }
@@ -109,27 +110,27 @@ pub fn waiting_members_have_certificates()
         → All (λ member. HasCertificate (whole_journal parts) s.r.state member.number) parts.pool.members }
 {}
 
-/// A certificate is what replay computes of a note.
+/// Says that replay computes the certificate of a note.
 pub fn certificates_are_computed()
     ensures { (s : State) (number steps : ℕ) (fresh : List ℕ) → IsCertificate s number steps fresh → fails_after s number steps fresh ≡ true }
 {}
 
-/// An engine that is opened from a base which leads to a typed state stands for that state, where its cells have the store and
-/// its pool the members. A replayed state of an accepted program is typed.
+/// Says that an engine that is opened from a base stands for the state to which the base leads, if that state is typed, the engine's cells
+/// have its store, and its pool has its members. A replayed state of an accepted program is typed.
 pub fn engines_open()
     ensures { (program : Tree) (signature : Signature) (limits : Limits) (base : List Entry) (cells : List (Cell Val)) (pool : Roster Tree) (r : Replayed)
         (types : StoreTyping) → replay program base ≡ Some r → IsTyped signature types r.state → AreOpened signature types cells r.state → HasMembersOf r pool
         → Simulates (opened program signature limits base cells pool r.state.output r.state.next) }
 {}
 
-/// And no member is at work, so that those which were rolled back as often as they may be run alone.
+/// Says that no member of such an engine is at work. So the members that were rolled back as often as they may be run alone.
 pub fn exhausted_members_open_alone()
     ensures { (program : Tree) (signature : Signature) (limits : Limits) (base : List Entry) (cells : List (Cell Val)) (pool : Roster Tree) (output : List ℤ)
         (next : ℕ) → RunsExclusively (opened program signature limits base cells pool output next) }
 {}
 
-/// A visit that ends with a call adds that call to those of its device, with the argument and the answer; any other visit adds
-/// none, and no more does any entry without an answer.
+/// Says that a visit that ends with a call adds that call to the calls of its device, with the argument and the answer. Any other visit
+/// adds no call, and neither does any entry without an answer.
 pub fn journals_tell_the_calls_of_visits()
     ensures call { (parts : Parts) (seat : ℕ) (attempt : Attempt) (n : ℕ) (p : LocalState) (k device : ℕ) (argument answer : ℤ) → Simulates parts
         → task_at parts.tasks seat ≡ Task.Free attempt → StepsTo parts attempt.tried.number n p
@@ -142,8 +143,8 @@ pub fn journals_tell_the_calls_of_visits()
         → device_calls k parts.program (whole_journal parts ++ entry ∷ []) ≡ device_calls k parts.program (whole_journal parts) }
 {}
 
-/// The answers that turned a member back are at most eight for each member that there ever was and for each entry. A member has at
-/// most eight tries for each of its entries and eight more; and one more than that at most one member a seat.
+/// Says that the answers that turned members back are at most eight for each member that there ever was and for each entry. A member has at
+/// most eight attempts without an entry for each of its entries, and eight more. At most one member a seat has one more than that.
 pub fn few_rollbacks_are_bounded()
     ensures refused { (refused : ℕ) (parts : Parts) → Simulates parts → HasFewRollbacks refused parts → IsRising parts.pool.members
         → IsWithinRollbacks parts.pool → refused ≤ max_rollbacks * (parts.next + length parts.entries) }
@@ -151,7 +152,7 @@ pub fn few_rollbacks_are_bounded()
         → HasFewTries parts.limits.seats parts.entries parts.tried }
 {}
 
-/// Once each seat is idle, entries and tries pay for all turns: where the turns are used up, they pay for the limit.
+/// Says that entries and attempts pay for all turns, once each seat is idle. If the turns are used up, they pay for the limit.
 pub fn paid_turns_need_steps()
     ensures turns { (parts : Parts) → HasPaidTurns parts → ((seat : ℕ) → task_at parts.tasks seat ≡ Task.Idle)
         → parts.turns ≤ paid parts.limits.slice parts.entries parts.tried }
@@ -159,7 +160,7 @@ pub fn paid_turns_need_steps()
         → parts.turns ≡ parts.limits.turns → parts.limits.turns ≤ paid parts.limits.slice parts.entries parts.tried }
 {}
 
-/// The term from which a seat runs a member is typed, and so is each place of a running row that has used all inputs.
+/// Says that the term from which a seat runs a member is typed, and so is each place of a running row that has used all inputs.
 pub fn rows_are_typed()
     ensures member { (parts : Parts) (s : Simulates parts) (seat i : ℕ) → member_of (task_at parts.tasks seat) ≡ Some i
         → IsMember parts.signature s.types (term_at parts.pool i) }

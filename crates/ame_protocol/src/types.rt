@@ -1,6 +1,6 @@
 //! Plain types of an engine.
 
-/// What a run may use.
+/// Limits a run.
 #[derive(Clone, Copy, PartialEq, Eq, Debug)]
 pub struct Limits {
     /// Events that count.
@@ -10,7 +10,7 @@ pub struct Limits {
     pub seats: u32,
 }
 
-/// A try of a member: after so many entries it could make so many steps. The entries are counted from the base on.
+/// Records an attempt of a member: after the number `at` of entries, counted with the base, the member could make this number of steps.
 #[derive(Clone, Copy, PartialEq, Eq, Debug)]
 pub struct Tried {
     pub number: u64,
@@ -18,12 +18,12 @@ pub struct Tried {
     pub steps: u64,
 }
 
-/// What a seat has at work.
+/// Describes the work of a seat.
 #[derive(Clone, Copy, PartialEq, Eq, Debug)]
 pub struct Attempt {
     /// The member, with the entries and the steps at the last valid check, or at the beginning.
     pub tried: Tried,
-    /// Whether an entry was added for it.
+    /// Says whether an entry was added for it.
     pub logged: bool,
 }
 
@@ -38,7 +38,7 @@ pub enum Reason {
     Stopped,
 }
 
-/// What a seat is at.
+/// Describes the state of a seat.
 #[derive(Clone, Copy, PartialEq, Eq, Debug)]
 pub enum Task {
     Idle,

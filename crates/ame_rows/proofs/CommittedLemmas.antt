@@ -1,4 +1,4 @@
--- What is committed at each location, after each call.
+-- The committed value at each location, after each call.
 use Rattle.std.proofs.Common.{◌≡◌, ◌≢◌, ◌==◌, ℕ, ◌<◌, true, false, cond, List, [], ◌∷◌, ◌++◌, length, set, map, Option, Some, None, slice_get, sym, refl, ap}
 use Rattle.std.proofs.Common.{subst, ◌∙◌, arith, ⊎_elim}
 use Rattle.std.specs.Prelude.{◌+◌, option_map, option_and_then, IsSome, IsSomeAnd, is_some, nat_eq}
@@ -64,7 +64,7 @@ module _ {V : Type 0} where
       ap (shown_at (set c.rows seat notes) l) cell ∙ shown_same c.rows (set c.rows seat notes) l (entries_same c.rows seat l notes within entry)
       (slice_get c.cells l)
 
-  -- what a location shows where a cell with this owner is
+  -- the value that a location shows with a cell of this owner
   shown_owned : (rows : List (Log V)) (l : ℕ) (o : Option (Cell V)) (cell : Cell V) (owner : Option ℕ) → o ≡ Some cell → cell.owner ≡ owner
       → shown_at rows l o ≡ cond cell.live (settled_value rows l cell.value owner) None
   shown_owned rows l o cell owner at own = ap (shown_at rows l) at ∙ ap (λ w. cond cell.live (settled_value rows l cell.value w) None) own
@@ -187,7 +187,7 @@ module _ {V : Type 0} where
   undone_number (Wrote l number old) cell = refl
   undone_number (Made l) cell = refl
 
-  -- a cell of the seat is nobody's after a whole rollback, and has the next number
+  -- a cell of the seat has no owner after a whole rollback, and has the next number
   pub rollback_back : (seat l : ℕ) (cell : Cell V) (us : List (Undo V)) (cells : List (Cell V)) → IsLogOf seat cells us
       → slice_get cells l ≡ Some cell → IsOwnedBy seat cell
       → IsSomeAnd (slice_get (all_undone us cells) l) (λ after. IsFree after × (after.number ≡ cell.number + 1))
@@ -342,7 +342,7 @@ module _ {V : Type 0} where
       let entry : entry_at row.undos l ≡ None = unowned_no_entry seat (slice_get c.cells l) (entry_at row.undos l) none ((kept.logs seat).owned l) in
       same_elsewhere c seat l (map (released_by seat) c.cells) no_log within cells (sym entry)
 
-  -- unprotected code writes where nobody is, and nothing else changes
+  -- unprotected code writes to cells without owners, and nothing else changes
   pub put_here : (l : ℕ) (value : V) (c : MemoryView V) (cell : Cell V) → slice_get c.cells l ≡ Some cell → IsFree cell → cell.live ≡ true
       → committed (put_at l value c) l ≡ Some value
   put_here l value c cell at free live =

@@ -34,7 +34,7 @@ module _ {V : Type 0} where
       ]
 
   -- ---- none is named twice
-  -- an entry that no other one stands beside
+  -- an entry that is alone
   apart_entry : (p : ℕ) (us : List (Undo V)) → AllByRecursion (λ q. nat_eq p q ≡ false) (places us) → entry_at us p ≡ None
   apart_entry p [] h = refl
   apart_entry p (u ∷ us) h =

@@ -15,7 +15,7 @@ pub on_err : {T E : Type 0} (P : Type 0) (r : Result T E) → P → OnErr r P
 on_err P (Ok x) p = tt
 on_err P (Err e) p = p
 
--- where no log has an entry, no cell has an owner
+-- if no log has an entry, no cell has an owner
 pub all_free : {V : Type 0} (c : MemoryView V) → IsConsistent c → ((seat : ℕ) → (row_at c.rows seat).undos ≡ []) → All IsFree c.cells
 all_free c kept none =
     all_from IsFree c.cells (λ l cell at. elim cell.owner as (λ o. cell.owner ≡ o → o ≡ None) [

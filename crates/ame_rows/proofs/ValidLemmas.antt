@@ -8,17 +8,17 @@ use Rattle.ame_rows.specs.declared.notes.Bad.{Bad}
 use Rattle.ame_rows.specs.Valid.{IsValidAt, IsValidRead, IsValid, note_of, IsFirstBad}
 
 module _ {V : Type 0} where
-  -- a logged read is valid where its cell says so
+  -- a logged read is valid if its cell says so
   pub IsValidRead-at : (cells : List (Cell V)) (seat : ℕ) (note : ReadNote) (cell : Cell V) → slice_get cells note.loc.0 ≡ Some cell
       → IsValidAt seat note.number cell → IsValidRead cells seat note
   IsValidRead-at cells seat note cell at valid = rw at valid
 
-  -- and its cell says so where it is valid
+  -- and its cell says so if it is valid
   pub IsValidRead-cell : (cells : List (Cell V)) (seat : ℕ) (note : ReadNote) (cell : Cell V) → slice_get cells note.loc.0 ≡ Some cell
       → IsValidRead cells seat note → IsValidAt seat note.number cell
   IsValidRead-cell cells seat note cell at valid = rw at at valid
 
-  -- the first read of a log that isn't valid is found where the reads before it are valid
+  -- the first read of a log that isn't valid is found if the reads before it are valid
   pub IsFirstBad-found : (cells : List (Cell V)) (seat : ℕ) (reads : List ReadNote) (i : ℕ) (d : ReadNote) (bad : Bad) (cell : Cell V)
       → i < length reads → IsValid cells seat (take i reads) → note_of bad ≡ get_or reads i d → slice_get cells bad.loc.0 ≡ Some cell
       → bad.now ≡ cell.number → (IsValidAt seat bad.read cell → ⊥) → IsFirstBad cells seat reads bad

@@ -1,4 +1,4 @@
--- What reads, writes and allocations of a seat, and those of unprotected code, make of a shared memory.
+-- The effects of reads, writes and allocations of a seat, and of those of unprotected code, on a shared memory.
 use Rattle.std.specs.Prelude.{◌≡◌, ◌==◌, ℕ, List, [], ◌∷◌, ◌++◌, cond, length, Bool, false, Option, Some, None, slice_get, slice_set}
 use Rattle.std.specs.Option.{ForSome, option_map_or}
 use Rattle.ame_term.specs.declared.types.Loc.{Loc}
@@ -29,7 +29,7 @@ module _ {V : Type 0} where
   is_owned_by seat cell = option_map_or (λ owner. owner == seat) cell.owner false
 
   -- ---- read
-  -- the logs of a seat that reads a cell: the input alone where it owns the cell, else with the number of the cell
+  -- the logs of a seat that reads a cell: the input alone if it owns the cell, otherwise with the number of the cell
   abbrev pub noted_read : ℕ → Loc → V → Cell V → Log V → Log V
   noted_read seat l input cell notes = record notes {
     reads = cond (is_owned_by seat cell) notes.reads (notes.reads ++ record { loc = l; number = cell.number } ∷ []);
@@ -40,7 +40,7 @@ module _ {V : Type 0} where
   abbrev pub notes_read : ℕ → Loc → V → List (Cell V) → Log V → Log V
   notes_read seat l input cells notes = option_map_or (λ cell. noted_read seat l input cell notes) (slice_get cells l.0) notes
 
-  -- a read of a seat logs a copy of the value in place as its next input, whoever owns the cell
+  -- a read of a seat logs a copy of the value in place as its next input, whichever seat owns the cell
   pub record IsRead (same : V → V → Type 0) (seat : ℕ) (l : Loc) (cells : List (Cell V)) (old new : Log V) : Type 0 where
     pub input : V
     pub copied : ForSome (slice_get cells l.0) (λ cell. same cell.value input)

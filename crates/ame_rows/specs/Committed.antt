@@ -11,12 +11,12 @@ module _ {V : Type 0} where
   old_value (Wrote l number old) = Some old
   old_value (Made l) = None
 
-  -- the value in place where nobody owns the cell, else the one that its owner would put back
+  -- the value in place if no seat owns the cell, otherwise the one that its owner would put back
   abbrev pub settled_value : List (Log V) → ℕ → V → Option ℕ → Option V
   settled_value rows l value None = Some value
   settled_value rows l value (Some owner) = option_and_then old_value (entry_at (row_at rows owner).undos l)
 
-  -- the committed value of a location where a live cell is, and none elsewhere
+  -- the committed value of a location with a live cell, and none elsewhere
   abbrev pub committed : MemoryView V → ℕ → Option V
   committed contents l =
       option_and_then (λ cell. cond cell.live (settled_value contents.rows l cell.value cell.owner) None) (slice_get contents.cells l)

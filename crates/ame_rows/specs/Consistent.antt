@@ -1,4 +1,4 @@
--- What the cells and the logs of a shared memory have to do with each other.
+-- The cells and the logs of a shared memory fit each other.
 use Rattle.std.specs.Prelude.{ℕ, ◌<◌, length, All}
 use Rattle.ame_rows.specs.MemoryView.{MemoryView, row_at}
 use Rattle.ame_rows.specs.Entries.{IsLogOf}

@@ -25,7 +25,7 @@ module _ {V : Type 0} where
   IsEntryFor seat (Wrote l number old) cell = IsOwnedBy seat cell × (cell.number ≡ number + 1)
   IsEntryFor seat (Made l) cell = IsOwnedBy seat cell × IsDead cell × (cell.number ≡ 1)
 
-  -- a seat owns the cell at a location, if one is there, exactly where its log has an entry, which fits the cell
+  -- a seat owns the cell at a location, if one is there, exactly if its log has an entry, which fits the cell
   abbrev pub OwnsAsLogged : ℕ → Option (Cell V) → Option (Undo V) → Type 0
   OwnsAsLogged seat None None = ⊤
   OwnsAsLogged seat None (Some undo) = ⊥

@@ -1,4 +1,4 @@
--- How a seat lets its cells go.
+-- The release of the cells of a seat.
 use Rattle.std.specs.Prelude.{ℕ, ◌-◌, List, map, take, cond, length, Option, slice_get, nat_lt}
 use Rattle.std.specs.Option.{option_map_or}
 use Rattle.ame_store.specs.declared.cell.Cell.{Cell}
@@ -11,7 +11,7 @@ use Rattle.ame_rows.specs.Access.{changed_at, is_owned_by}
 
 module _ {V : Type 0} where
   -- ---- a commit
-  -- the cell, released where this seat owns it
+  -- the cell, released if this seat owns it
   abbrev pub released_by : ℕ → Cell V → Cell V
   released_by seat cell = cond (is_owned_by seat cell) (released cell) cell
 

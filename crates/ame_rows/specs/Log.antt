@@ -1,4 +1,4 @@
--- What contracts see of a row.
+-- The rows of logs, as contracts see them.
 use Rattle.std.specs.Prelude.{ℕ, ◌<◌, ◌≤◌, List, []}
 use Rattle.ame_rows.specs.declared.notes.ReadNote.{ReadNote}
 use Rattle.ame_rows.specs.declared.notes.Undo.{Undo}

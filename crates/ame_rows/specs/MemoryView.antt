@@ -1,4 +1,4 @@
--- What contracts see of a shared memory.
+-- The shared memory, as contracts see it.
 use Rattle.std.specs.Prelude.{ℕ, List, [], map, slice_get, slice_set, unwrap_or}
 use Rattle.ame_store.specs.declared.cell.Cell.{Cell}
 use Rattle.ame_rows.specs.declared.notes.ReadNote.{ReadNote}

@@ -20,7 +20,7 @@ module _ {V : Type 0} where
   abbrev pub IsValid : List (Cell V) → ℕ → List ReadNote → Type 0
   IsValid cells seat reads = All (IsValidRead cells seat) reads
 
--- the read that is told
+-- the read that is returned
 abbrev pub note_of : Bad → ReadNote
 note_of bad = record { loc = bad.loc; number = bad.read }
 

@@ -1,4 +1,4 @@
-//! How a seat lets its cells go.
+//! The release of the cells of a seat.
 
 ghost use Rattle.std.specs.Prelude.{◌≡◌, ◌<◌, ◌↔◌, IsTrue, IsSomeAnd, All, length, map, slice_get};
 ghost use Rattle.ame_store.specs.Cells.{CanGrow};
@@ -45,7 +45,7 @@ fn undo<V: Drop>(store: &mut Store<V>, seat: u32, entry: Undo<V>)
     }
 }
 
-/// Undoes the last entry, if there is one, and empties the logs once none is left. Tells whether one is left.
+/// Undoes the last entry, if there is one, and empties the logs once none is left. Returns whether one is left.
 pub(crate) fn undo_last<V: Drop>(store: &mut Store<V>, row: &mut Row<V>, seat: u32) -> bool
     requires log { IsLogOf seat store.old row.old.undos }
     requires can_grow { All CanGrow store.old }

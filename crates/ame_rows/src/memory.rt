@@ -23,7 +23,7 @@ use std::alloc::Global;
 use std::marker::Model;
 
 /// The cells that all seats share, and the logs of each seat. Contracts see the cells as a list, and the logs
-/// without their room. After want of memory all of it is as before. A seat's reads, writes and allocations, and what
+/// without their room. Out of memory, all of it is as before. A seat's reads, writes and allocations, and what
 /// unprotected code does, take the same time whatever the number of cells and entries, but for the growth of a list and
 /// the copy of a value; a look at a cell that a seat owns goes through that seat's undo log.
 #[derive(Drop)]
@@ -45,7 +45,7 @@ impl<V> Model for Memory<V> {
 }
 
 impl<V> Memory<V> {
-    /// A shared memory over cells that no seat owns, with empty logs for this many seats.
+    /// Returns a shared memory over cells that no seat owns, with empty logs for this many seats.
     pub fn new(alloc: Global, store: Store<V>, seats: u32) -> Result<Memory<V>, NoMemory>
     where
         V: Drop,
@@ -56,7 +56,7 @@ impl<V> Memory<V> {
         Ok(Memory { store, rows })
     }
 
-    /// The cells.
+    /// Returns the cells.
     pub fn cells(&self) -> &Store<V>
         ensures cells { result.now ≡ self.now.cells }
         ensures consistent { IsConsistent self.now }
@@ -64,14 +64,14 @@ impl<V> Memory<V> {
         &self.store
     }
 
-    /// The number of seats.
+    /// Returns the number of seats.
     pub fn seats(&self) -> usize
         ensures { result ≡ length self.now.rows }
     {
         self.rows.len()
     }
 
-    /// The logs of a seat.
+    /// Returns the logs of a seat.
     pub fn row(&self, seat: u32) -> &Row<V>
         requires { seat < length self.now.rows }
         ensures { without_room result.now ≡ row_at self.now.rows seat }
@@ -79,7 +79,7 @@ impl<V> Memory<V> {
         &self.rows[seat as usize]
     }
 
-    /// The locations that a seat owns, in rising order.
+    /// Returns the locations that a seat owns, in rising order.
     pub fn owned(&self, alloc: Global, seat: u32) -> Result<Vec<Loc>, NoMemory>
         requires { seat < length self.now.rows }
         ensures same { IfOk result (λ locs.
@@ -90,7 +90,7 @@ impl<V> Memory<V> {
         Ok(locs)
     }
 
-    /// Whether each read that a seat logged is valid; else the first that isn't.
+    /// Returns whether each read that a seat logged is valid; otherwise the first that isn't.
     pub fn valid(&self, seat: u32) -> Option<Bad>
         requires { seat < length self.now.rows }
         ensures valid { IsNone result ↔ IsValid self.now.cells seat (row_at self.now.rows seat).reads }
@@ -99,7 +99,7 @@ impl<V> Memory<V> {
         self.rows[seat as usize].valid(seat, &self.store)
     }
 
-    /// The committed value of a location: where a seat owns the cell, the one that it found there.
+    /// Returns the committed value of a location: if a seat owns the cell, the one that it found there.
     pub fn committed(&self, l: Loc) -> Option<&V>
         ensures { option_copied result ≡ committed_at self.now l.0 }
     {
@@ -174,7 +174,7 @@ impl<V> Memory<V> {
         release_all(&mut self.store, row, seat);
     }
 
-    /// Undoes the last entry of a seat, if there is one, and empties its logs once none is left. Tells whether one is left.
+    /// Undoes the last entry of a seat, if there is one, and empties its logs once none is left. Returns whether one is left.
     pub fn undo_last(&mut self, seat: u32) -> bool
     where
         V: Drop,
@@ -198,7 +198,7 @@ impl<V> Memory<V> {
         self.store.put(l, value)
     }
 
-    /// A new cell that no seat owns. Its location is the number of cells before.
+    /// Returns a new cell that no seat owns. Its location is the number of cells before.
     pub fn born(&mut self, sort: Sort, ty: TyNo, value: V) -> Result<Loc, NoMemory>
     where
         V: Drop,
@@ -211,7 +211,7 @@ impl<V> Memory<V> {
         Ok(l)
     }
 
-    /// The cells alone.
+    /// Returns the cells alone.
     pub fn into_cells(self) -> Store<V>
     where
         V: Drop,
@@ -242,7 +242,7 @@ impl<V: Copied> Memory<V> {
         Ok(value)
     }
 
-    /// A copy of the committed value of a location.
+    /// Returns a copy of the committed value of a location.
     pub fn peek(&self, l: Loc) -> Result<V, NoMemory>
         requires { IsSome (committed_at self.now l.0) }
         ensures { IfOk result (λ value. IfSome (committed_at self.now l.0) (λ held. V.same held value)) }

@@ -1,4 +1,4 @@
-//! What the logs of a seat hold.
+//! The entries of the logs of a seat.
 
 ghost use Rattle.std.specs.Prelude.{◌↔◌, IsTrue};
 
@@ -12,7 +12,7 @@ pub struct ReadNote {
     pub number: u64,
 }
 
-/// How to undo what a seat did first to a cell.
+/// An entry that undoes the first change of a cell by a seat.
 #[derive(Drop)]
 pub enum Undo<V> {
     /// The seat wrote this cell, which had this number and value and no owner.
@@ -32,7 +32,7 @@ pub struct Bad {
 impl ReadNote {
     ghost use Rattle.ame_rows.specs.Valid.{IsValidAt};
 
-    // Whether the read is valid, by the cell as it is now.
+    // The read is valid if the cell, as it is now, says so.
     pub(crate) fn is_valid<V>(self, seat: u32, cell: &Cell<V>) -> bool
         ensures { IsTrue result ↔ IsValidAt seat self.number cell.now }
     {

@@ -11,9 +11,9 @@ use ame_trace::Trace;
 use std::alloc::Global;
 use std::marker::Model;
 
-/// What a seat read, what it was given, and how to undo what it wrote, each in its order. Contracts see a record of these
-/// lists, and of the places that are free in those that are kept: what the seat was given is told to contracts alone. Only
-/// `room` takes memory, and only `valid` and `clear` take longer for longer logs.
+/// The reads of a seat, the inputs that it was given, and the entries that undo its writes, each in its order. Contracts see a record of
+/// these lists, and of the places that are free in those that are kept: only contracts see the inputs. Only `room` takes memory, and
+/// only `valid` and `clear` take longer for longer logs.
 #[derive(Drop)]
 pub struct Row<V> {
     reads: Vec<ReadNote>,
@@ -50,7 +50,7 @@ impl<V> Row<V> {
         }
     }
 
-    /// Makes a place in each log that is kept. Where there is no memory for one, the places in others may have been made.
+    /// Makes a place in each log that is kept. If there is no memory for one, the places in others may have been made.
     pub fn room(&mut self) -> Result<(), NoMemory>
         ensures logs { self.new ≡ record self.old { room = self.new.room } }
         ensures keeps { Keeps self.old.room self.new.room }
@@ -92,7 +92,7 @@ impl<V> Row<V> {
         self.undos.push_reserved(undo);
     }
 
-    /// Whether each logged read is valid; else the first that isn't.
+    /// Returns whether each logged read is valid; otherwise the first that isn't.
     pub fn valid(&self, seat: u32, store: &Store<V>) -> Option<Bad>
         requires { All (λ note. note.loc.0 < length store.now) self.now.reads }
         ensures valid { IsNone result ↔ IsValid store.now seat self.now.reads }
@@ -122,14 +122,14 @@ impl<V> Row<V> {
         self.undos.pop()
     }
 
-    /// The read log.
+    /// Returns the read log.
     pub fn reads(&self) -> &[ReadNote]
         ensures { result.now ≡ self.now.reads }
     {
         self.reads.as_slice()
     }
 
-    /// The undo log.
+    /// Returns the undo log.
     pub fn undos(&self) -> &[Undo<V>]
         ensures { result.now ≡ self.now.undos }
     {

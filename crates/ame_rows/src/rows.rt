@@ -10,7 +10,7 @@ use crate::{Row, Undo};
 use ame_term::{Loc, NoMemory};
 use std::alloc::Global;
 
-/// Empty logs for this many seats.
+/// Makes empty logs for this many seats.
 pub(crate) fn empty_rows<V: Drop>(alloc: Global, seats: u32) -> Result<Vec<Row<V>>, NoMemory>
     ensures { IfOk result (λ rows. map without_room rows.items ≡ replicate seats no_log) }
 {
@@ -21,7 +21,7 @@ pub(crate) fn empty_rows<V: Drop>(alloc: Global, seats: u32) -> Result<Vec<Row<V
     Ok(rows)
 }
 
-/// The location that an entry names.
+/// Returns the location that an entry names.
 pub(crate) fn location<V>(undo: &Undo<V>) -> Loc
     ensures { result.0 ≡ named_by undo.now }
 {
@@ -31,7 +31,7 @@ pub(crate) fn location<V>(undo: &Undo<V>) -> Loc
     }
 }
 
-/// The locations that a log names, in its order.
+/// Returns the locations that a log names, in its order.
 fn locations<V>(alloc: Global, undos: &[Undo<V>]) -> Result<Vec<Loc>, NoMemory>
     ensures { IfOk result (λ locs. map (λ l. l.0) locs.items ≡ places undos.now) }
 {
@@ -50,7 +50,7 @@ fn sort(locs: &mut Vec<Loc>)
     locs.sort_unstable_by_key(|l| l.0);
 }
 
-/// The locations that a log names, in rising order.
+/// Returns the locations that a log names, in rising order.
 pub(crate) fn sorted_locations<V>(alloc: Global, undos: &[Undo<V>]) -> Result<Vec<Loc>, NoMemory>
     ensures same { IfOk result (λ locs. IsPermutation (places undos.now) (map (λ l. l.0) locs.items)) }
     ensures rising { IfOk result (λ locs. IsNonDecreasingBy (λ l. l.0) locs.items) }
@@ -60,7 +60,7 @@ pub(crate) fn sorted_locations<V>(alloc: Global, undos: &[Undo<V>]) -> Result<Ve
     Ok(locs)
 }
 
-/// The entry of a log that names a location.
+/// Returns the entry of a log that names a location.
 pub(crate) fn entry<V>(undos: &[Undo<V>], l: Loc) -> Option<&Undo<V>>
     ensures { option_copied result ≡ entry_at undos.now l.0 }
 {
@@ -72,7 +72,7 @@ pub(crate) fn entry<V>(undos: &[Undo<V>], l: Loc) -> Option<&Undo<V>>
     None
 }
 
-/// The value that undoing the entry of a location puts back.
+/// Returns the value that undoing the entry of a location puts back.
 pub(crate) fn old_value<V>(undos: &[Undo<V>], l: Loc) -> Option<&V>
     ensures { option_copied result ≡ option_and_then old_of (entry_at undos.now l.0) }
 {

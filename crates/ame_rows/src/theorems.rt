@@ -11,7 +11,7 @@ ghost use Rattle.ame_term.specs.declared.types.Sort.{Sort};
 ghost use Rattle.ame_term.specs.declared.types.TyNo.{TyNo};
 ghost use Rattle.ame_rows.specs.Access.{put_at, born};
 
-/// A release commits what the seat has in place in the cells that it owns, and leaves every other cell and what is committed there.
+/// Shows that a release commits what the seat has in place in the cells that it owns, and leaves every other cell and what is committed there.
 pub fn releases_commit<V>()
     ensures cells { (seat j : ℕ) (c : MemoryView V)
         → slice_get (released_all seat c).cells j ≡ option_map (released_by seat) (slice_get c.cells j) }
@@ -22,7 +22,7 @@ pub fn releases_commit<V>()
         → committed (released_all seat c) j ≡ committed c j }
 {}
 
-/// What unprotected code writes and allocates is committed at once, and nothing else changes.
+/// Shows that a write or an allocation of unprotected code is committed at once, and nothing else changes.
 pub fn unprotected_code_commits<V>()
     ensures put { (j : ℕ) (value : V) (cell : Cell V) (c : MemoryView V) → slice_get c.cells j ≡ Some cell → IsFree cell → cell.live ≡ true
         → committed (put_at j value c) j ≡ Some value }

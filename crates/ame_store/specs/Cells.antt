@@ -1,9 +1,9 @@
--- What contracts see of a cell.
+-- The cell, as contracts see it.
 use Rattle.std.specs.Prelude.{◌≡◌, ℕ, ◌%◌, ◌^◌, ◌<◌, Some, None, MatchOption, false}
 use Rattle.ame_store.specs.declared.cell.Cell.{Cell}
 
 module _ {V : Type 0} where
-  -- its number is even exactly where it has no owner
+  -- its number is even exactly if it has no owner
   abbrev pub HasItsParity : Cell V → Type 0
   HasItsParity cell = MatchOption cell.owner (cell.number % 2 ≡ 0) (λ _. cell.number % 2 ≡ 1)
 

@@ -1,4 +1,4 @@
--- How calls change the cells of a store.
+-- The changes that calls make in the cells of a store.
 use Rattle.std.specs.Prelude.{◌≡◌, ℕ, ◌+◌, List, Option, Some, None, slice_get, slice_set, true, false}
 use Rattle.std.specs.Option.{ForSome}
 use Rattle.ame_term.specs.declared.types.Sort.{Sort}
@@ -10,7 +10,7 @@ module _ {V : Type 0} where
   abbrev pub Changes : List (Cell V) → List (Cell V) → ℕ → (Cell V → Cell V) → Type 0
   Changes old new l change = ForSome (slice_get old l) (λ cell. new ≡ slice_set old l (change cell))
 
-  -- a new cell: live where it has no owner
+  -- a new cell: live if it has no owner
   abbrev pub made : Sort → TyNo → V → Option ℕ → Cell V
   made sort ty value None =
       record { sort = sort; ty = ty; value = value; number = 0; owner = None; live = true }

@@ -1,4 +1,4 @@
--- What a write of a seat does, by its answer.
+-- The effect of a write of a seat, by its answer.
 use Rattle.std.specs.Prelude.{◌≡◌, ◌≢◌, ℕ, ◌+◌, List, Some, slice_set}
 use Rattle.ame_store.specs.Cells.{IsFree, IsOwnedBy}
 use Rattle.ame_store.specs.declared.cell.Cell.{Cell}
@@ -6,7 +6,7 @@ use Rattle.ame_store.specs.declared.taken.Taken.{Taken}
 use Rattle.ame_store.specs.declared.taken.Taken.TheVariants.{First, Again, Owned}
 
 module _ {V : Type 0} where
-  -- what each answer tells of the cell as it was
+  -- the facts that each answer gives of the cell as it was
   abbrev pub Tells : ℕ → V → Cell V → Taken V → Type 0
   Tells seat value cell (First had number) = IsFree cell × (had ≡ cell.value) × (number ≡ cell.number)
   Tells seat value cell (Again had) = IsOwnedBy seat cell × (had ≡ cell.value)
@@ -16,7 +16,7 @@ module _ {V : Type 0} where
   abbrev pub taken_by : ℕ → V → Cell V → Cell V
   taken_by seat value cell = record cell { value = value; number = cell.number + 1; owner = Some seat }
 
-  -- the cells after each answer, where this cell was at the location
+  -- the cells after each answer, if this cell was at the location
   abbrev pub written : ℕ → ℕ → V → Taken V → List (Cell V) → Cell V → List (Cell V)
   written seat l value (First had number) cells cell = slice_set cells l (taken_by seat value cell)
   written seat l value (Again had) cells cell = slice_set cells l (record cell { value = value })

@@ -4,7 +4,7 @@ ghost use Rattle.std.specs.Prelude.{◌≡◌};
 
 use ame_term::{Sort, TyNo};
 
-/// One cell of a store. Its number grows with each change, and is even exactly where it has no owner.
+/// One cell of a store. Its number grows with each change, and is even exactly if it has no owner.
 /// A cell that isn't live is one that a seat made and has not released, or one that was killed.
 #[derive(Drop)]
 pub struct Cell<V> {

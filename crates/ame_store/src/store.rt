@@ -14,7 +14,7 @@ use std::marker::Model;
 use std::mem;
 
 /// The cells of a run. Contracts see them as a list; a location is a place in it. The number of each
-/// cell is even exactly where it has no owner. Only `alloc` and `read` take memory, and each call but
+/// cell is even exactly if it has no owner. Only `alloc` and `read` take memory, and each call but
 /// the growth of `alloc` and the copy of `read` takes the same time whatever the number of cells.
 #[derive(Drop)]
 pub struct Store<V> {
@@ -35,7 +35,7 @@ impl<V> Model for Store<V> {
 }
 
 impl<V> Store<V> {
-    /// An empty store, without memory.
+    /// Returns an empty store, without memory.
     pub fn new(alloc: Global) -> Store<V>
         ensures { result ≡ [] }
     {
@@ -44,7 +44,7 @@ impl<V> Store<V> {
         }
     }
 
-    /// The number of cells.
+    /// Returns the number of cells.
     pub fn len(&self) -> u32
         ensures len { result ≡ length self.now }
         ensures parity { All HasItsParity self.now }
@@ -52,7 +52,7 @@ impl<V> Store<V> {
         self.cells.len() as u32
     }
 
-    /// The cell at a location.
+    /// Returns the cell at a location.
     pub fn cell(&self, l: Loc) -> &Cell<V>
         requires { l.0 < length self.now }
         ensures { slice_get self.now l.0 ≡ Some result.now }
@@ -86,7 +86,7 @@ impl<V> Store<V> {
         cell.value = old;
     }
 
-    /// Lets a cell go that its owner made, for nobody to use.
+    /// Lets a cell go that its owner made, for no seat to use.
     pub fn kill(&mut self, seat: u32, l: Loc)
         requires location { l.0 < length self.old }
         requires owned { ForSome (slice_get self.old l.0) (IsOwnedBy seat) }
@@ -158,7 +158,7 @@ impl<V> Store<V> {
         Ok(l)
     }
 
-    /// A store of cells that no seat owns.
+    /// Returns a store of cells that no seat owns.
     pub fn from_cells(cells: Vec<Cell<V>>) -> Store<V>
         requires few { vec_len cells ≤ 4294967295 }
         requires free { All IsFree cells.items }
@@ -170,7 +170,7 @@ impl<V> Store<V> {
 }
 
 impl<V: Copied> Store<V> {
-    /// A copy of the value in a cell, whoever owns it, and the cell's number.
+    /// Returns a copy of the value in a cell, whichever seat owns it, and the cell's number.
     pub fn read(&self, l: Loc) -> Result<(V, u64), NoMemory>
         requires { l.0 < length self.now }
         ensures value { IfOk result (λ r.

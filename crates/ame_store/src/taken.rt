@@ -1,4 +1,4 @@
-//! What a write answers.
+//! The answers of a write.
 
 /// The answer to a write by a seat.
 #[derive(Drop)]

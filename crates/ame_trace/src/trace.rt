@@ -26,7 +26,7 @@ impl<V> Model for Trace<V> {
 }
 
 impl<V> Trace<V> {
-    /// The empty list.
+    /// Returns the empty list.
     pub fn new() -> Trace<V>
         ensures { result ≡ [] }
     {

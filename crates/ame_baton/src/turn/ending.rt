@@ -1,4 +1,4 @@
-//! How the state comes out of the baton at the end.
+//! The end of a baton: the state comes out of it.
 ghost use Rattle.std.specs.Prelude.{◌≡◌, ◌+◌, [], ◌∷◌, ◌++◌, length, vec_len};
 ghost use Rattle.crossbeam_queue.specs.Passes.{view, IsPassOf};
 ghost use Rattle.ame_baton.specs.Seats.{left_by, HasEnded};

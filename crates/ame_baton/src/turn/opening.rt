@@ -1,4 +1,4 @@
-//! How a baton is made, and how its seats are.
+//! The opening of a baton and of its seats.
 ghost use Rattle.std.specs.Prelude.{◌≡◌, ◌+◌, ◌<◌, ◌≤◌, false, [], replicate, IfOk, IfErr};
 ghost use Rattle.ame_baton.specs.Seats.{first_seat, next_seat};
 ghost use Rattle.ame_baton.specs.declared.state.TheConstants.{SEAT_LIMIT};
@@ -13,7 +13,7 @@ use std::alloc::Global;
 use std::sync::Wait;
 
 impl<S: Rowed> Baton<S> {
-    /// Puts the state under the rule, and gives seat 0. Where memory runs out the state comes back.
+    /// Puts the state under the rule, and gives seat 0. If memory runs out, it returns the state.
     pub fn new<R: Wait>(rt: &R, alloc: Global, state: S) -> Result<(Baton<S>, Seat<S>), S>
         requires some { 1 ≤ S.seats_in (S.opening state) }
         requires few { S.seats_in (S.opening state) ≤ SEAT_LIMIT }

@@ -1,4 +1,4 @@
-//! How a seat takes the turn and gives it back.
+//! The calls by which a seat takes the turn and gives it back.
 ghost use Rattle.std.specs.Prelude.{◌≡◌, true, false, IfOk, OnErr};
 ghost use Rattle.ame_baton.specs.Seats.{Takes, IsElsewhere, MayGive, Gives};
 ghost use Rattle.ame_baton.specs.Batons.{knows, IsSeatOf};
@@ -10,14 +10,14 @@ use crate::steps;
 use std::sync::Wait;
 use std::thread;
 
-/// Tells that the turn was elsewhere. Only a try to take it makes one.
+/// The answer that the turn was elsewhere. Only a try to take it makes one.
 #[derive(Clone, Copy, PartialEq, Eq, Debug)]
 pub struct Elsewhere {
     tried: (),
 }
 
 impl<S: Rowed> Baton<S> {
-    /// One pop. It takes no memory.
+    /// Makes one pop. It takes no memory.
     pub fn try_take<R: Wait>(&self, rt: &R, seat: &mut Seat<S>) -> Result<S, Elsewhere>
         requires of { IsSeatOf self.now seat.old }
         requires free { (knows seat.old).holds ≡ false }
@@ -47,7 +47,7 @@ impl<S: Rowed> Baton<S> {
         unreachable!()
     }
 
-    /// Puts the state back. Which row the seat leaves is the state's to say, and `M`'s where the state
+    /// Puts the state back. Which row the seat leaves is the state's to say, and `M`'s if the state
     /// doesn't show it. It takes no memory.
     pub fn give<M: Leaves<S::Row>, R: Wait>(&self, rt: &R, seat: &mut Seat<S>, state: S)
         requires of { IsSeatOf self.now seat.old }

@@ -1,4 +1,4 @@
--- What a step of a run that agrees with a store makes of a state.
+-- The effect on a state of a step of a run that agrees with a store.
 use Rattle.std.proofs.Common.{◌≡◌, ℕ, suc, ◌+◌, ◌⊎◌, inl, inr, ℤ, Bool, true, List, [], ◌∷◌, ◌++◌, length, Option, Some, None, is_some, option_map, option_and_then, if◌then◌else◌, refl, sym, ap, ◌∙◌, subst, arith, append-nil, append_assoc, length-append}
 use Rattle.ame_term.specs.Tree.{Val, Tree, unit_tree}
 use Rattle.ame_term.specs.Frame.{Side}
@@ -207,7 +207,7 @@ module _ (s : State) (i : ℕ) (p : LocalState) (t : State) (h : IsAfterRun s i 
     answer = resting;
   }
 
-  -- What is taken is what the state has there.
+  -- The value that is taken is the one that the state has there.
 
   stored-taken : (o : Option Val) (l : ℕ) (v : Val) → at p.sets l ≡ o → AgreesWith s.store (taken_where o l v p) → at t.store l ≡ Some v
   stored-taken None l v is a = h.stored l ∙ ap (λ (z : Option Val). or_else z (at s.store l)) is ∙ a.seen.0

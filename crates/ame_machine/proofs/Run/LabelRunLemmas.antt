@@ -66,7 +66,7 @@ module _ (s : State) (i : ℕ) (side : Side) (term : Tree) where
         told = x.answer;
       }
 
-  -- a run that is told in other words
+  -- a run in other words
   told_so : (m n : ℕ) (old new : List ℕ) (was is : Option ℤ) (u : State) → m ≡ n → old ≡ new → was ≡ is → IsRunTo s i side term m old was u → IsRunTo s i side term n new is u
   told_so m n old new was is u count made answer r =
       subst (λ (k : ℕ). IsRunTo s i side term k new is u) count

@@ -11,7 +11,7 @@ use Rattle.ame_term.specs.declared.types.TyNo.{TyNo}
 use Rattle.ame_journal.specs.Replay.{or_else}
 use Rattle.ame_machine.specs.Run.Local.{LocalState, took, taken_where, set_at, made_at, spawned, printed, acts_alone, fed, fed_next, acted, acted_at, refilled_in, one_step, goes, given_more}
 
--- What an act with its input makes of a run.
+-- The effect of an act with its input on a run.
 pub data Feeds (p : LocalState) : Side → Act → Val → Tree → LocalState → Type 0 where
   allocates : (side : Side) (sort : Sort) (number : TyNo) (v : Val) (l : ℕ) → Feeds p side (Act.Allocates sort number v) (Val.Loc l) (Tree.Held (Val.Loc l)) (made_at l v p)
   reads : (side : Side) (l : ℕ) (v : Val) → Feeds p side (Act.Reads l) v (Tree.Held v) (took l v p)
@@ -21,7 +21,7 @@ pub data Feeds (p : LocalState) : Side → Act → Val → Tree → LocalState �
   prints : (n : ℤ) → Feeds p Side.Unprotected (Act.Prints n) Val.Unit unit_tree (printed n p)
   calls : (device : ℕ) (n answer : ℤ) → Feeds p Side.Unprotected (Act.Calls device n) (Val.Int answer) (Tree.Held (Val.Int answer)) (record p { answer = Some answer })
 
--- What an act makes of a run.
+-- The effect of an act on a run.
 pub data Acts (p : LocalState) : Side → Act → Tree → LocalState → Type 0 where
   becomes : (side : Side) (term : Tree) → Acts p side (Act.Becomes term) term p
   spawns : (body : Tree) → Acts p Side.Protected (Act.Spawns body) unit_tree (spawned body p)
@@ -71,7 +71,7 @@ has_acts p side act = with_input p side act p.inputs refl
 pub acts-of : (p : LocalState) (side : Side) (act : Act) (made : Tree × LocalState) → acted act side p ≡ Some made → Acts p side act made.0 made.1
 acts-of p side act made e = subst (HasActs p side act) e (has_acts p side act)
 
--- Each of them is a rule of the function again, where the run has more inputs too.
+-- Each of them is a rule of the function again, also if the run has more inputs.
 
 taken-more : (o : Option Val) (l : ℕ) (v : Val) (p : LocalState) (more : List Val)
     → taken_where o l v (given_more more p) ≡ given_more more (taken_where o l v p)

@@ -118,7 +118,7 @@ module _ (signature : Signature) (cells : StoreTyping) where
   row-local s _ _ _ _ _ Reduces.passing fit formed = LocalStep.passed
   row-local s _ _ _ _ _ (Reduces.answering device n reply) fit formed = LocalStep.answered device n reply
 
-  -- What is held
+  -- Values that are held
 
   -- what a run set, and its new members, are typed
   pub record IsHeldTyped (p : LocalState) : Type 0 where
@@ -206,7 +206,7 @@ module _ (signature : Signature) (cells : StoreTyping) where
   no_next : (side : Side) (p : LocalState) → p.inputs ≡ [] → IsFitNext signature cells side p
   no_next side p empty redex v inputs stands is = absurd (let clash : v ∷ inputs ≡ [] = sym is ∙ empty in cc)
 
-  -- where all inputs are used a place stays typed
+  -- a place stays typed if all inputs are used
   pub typed-later : (side : Side) (t : Typ) (p q : LocalState) (n : ℕ) → IsTypedPlace signature cells t p → p.inputs ≡ [] → goes side p n ≡ Some q → IsTypedPlace signature cells t q
   typed-later side t p q zero place empty e = let same : p ≡ q = cc in subst (IsTypedPlace signature cells t) same place
   typed-later side t p q (suc n) place empty e =

@@ -7,7 +7,7 @@ use Rattle.ame_term.specs.State.{State}
 use Rattle.ame_journal.specs.Replay.{or_else}
 use Rattle.ame_machine.specs.Run.Local.{LocalState}
 
--- Each value that was taken where the run had set none is what the store has there; each other value is
+-- Each value that was taken at a location that the run had not set is what the store has there; each other value is
 -- the one that it had set; and no new location is in the store, or was set before.
 pub record AgreesWith (store : List (ℕ × Val)) (p : LocalState) : Type 0 where
   pub seen : AllByRecursion (λ e. at store e.0 ≡ Some e.1) p.seen
@@ -19,7 +19,7 @@ abbrev pub with_members : List (ℕ × Tree) → ℕ → List Tree → List (ℕ
 with_members members next [] = members
 with_members members next (body ∷ bodies) = with_members (put members next body) (next + 1) bodies
 
--- The state t is s after a run of member i: what it set is in the store, what it printed stands behind the
+-- The state t is s after a run of member i: what it set is in the store, what it printed follows the
 -- output, its new members have the next numbers, and the members but i are as they were.
 pub record IsAfterRun (s : State) (i : ℕ) (p : LocalState) (t : State) : Type 0 where
   pub stored : (l : ℕ) → at t.store l ≡ or_else (at p.sets l) (at s.store l)

@@ -1,6 +1,6 @@
 -- A fragment's run by itself. What it takes from a store or from a device are its inputs, and what it
--- hands out is held. On both sides of `unprotected` it is the same function; in unprotected code, where
--- prints, new members and calls take effect at once, each of these takes an input too.
+-- hands out is held. On both sides of `unprotected` it is the same function; in unprotected code
+-- prints, new members and calls take effect at once, so each of these takes an input too.
 use Rattle.std.specs.Prelude.{ℕ, zero, suc, ℤ, List, [], ◌∷◌, ◌++◌, Option, Some, None, option_map, option_and_then, is_none, if◌then◌else◌}
 use Rattle.ame_term.specs.Tree.{Val, Tree, unit_tree}
 use Rattle.ame_term.specs.Frame.{Side, same_side}
@@ -9,10 +9,10 @@ use Rattle.ame_term.specs.Act.{Act, act_of}
 use Rattle.ame_term.specs.Maps.{at, put}
 use Rattle.ame_journal.specs.Replay.{or_else}
 
--- Where a run stands: its term; the inputs that it hasn't used; what it printed, its new members and its
+-- The place of a run: its term; the inputs that it hasn't used; what it printed, its new members and its
 -- new locations, each in order; the answer of the device that it called. And its footprint, newest first:
--- each location that it hadn't set and the value taken there (`seen`); each value taken where it had set
--- one, and that one (`own`); each new location, and what was set there before (`made`). `sets` has what
+-- each location that it hadn't set and the value taken there (`seen`); each value taken at one that it had set,
+-- and that value (`own`); each new location, and what was set there before (`made`). `sets` has what
 -- it set last at each location.
 pub record LocalState : Type 0 where
   pub term : Tree
@@ -26,14 +26,14 @@ pub record LocalState : Type 0 where
   pub made : List (ℕ × Option Val)
   pub sets : List (ℕ × Val)
 
--- where a run begins
+-- the beginning of a run
 abbrev pub begun_with : Tree → List Val → LocalState
 begun_with term inputs =
     record { term = term; inputs = inputs; prints = []; spawns = []; fresh = []; answer = None; seen = []; own = []; made = []; sets = [] }
 
 -- Effects
 
--- a value is taken where this was set
+-- a value is taken at a location after this was set
 abbrev pub taken_where : Option Val → ℕ → Val → LocalState → LocalState
 taken_where None l v p = record p { seen = (l, v) ∷ p.seen }
 taken_where (Some w) l v p = record p { own = (v, w) ∷ p.own }
@@ -68,7 +68,7 @@ acts_alone (Act.Prints n) Side.Protected p = Some (unit_tree, printed n p)
 acts_alone Act.Passes Side.Protected p = Some (unit_tree, p)
 acts_alone _ _ p = None
 
--- An act with its input: a value that is taken, a new location, an answer, or the unit, by which it is told
+-- An act with its input: a value that is taken, a new location, an answer, or the unit, which says
 -- that a write, a print or a new member was accepted.
 abbrev pub fed : Act → Side → Val → LocalState → Option (Tree × LocalState)
 fed (Act.Allocates sort number v) side (Val.Loc l) p = Some (Tree.Held (Val.Loc l), made_at l v p)
@@ -85,11 +85,11 @@ abbrev pub fed_next : Act → Side → List Val → LocalState → Option (Tree 
 fed_next act side [] p = None
 fed_next act side (v ∷ inputs) p = fed act side v (record p { inputs = inputs })
 
--- what an act becomes, and where the run stands then
+-- the result of an act, and the place of the run then
 abbrev pub acted : Act → Side → LocalState → Option (Tree × LocalState)
 acted act side p = or_else (acts_alone act side p) (fed_next act side p.inputs p)
 
--- the same of the redex of a term; it must stand on the side that is told
+-- the same of the redex of a term; it must stand on the given side
 abbrev pub acted_at : Side → Focus → LocalState → Option (Tree × LocalState)
 acted_at side (Focus.AtValue v) p = None
 acted_at side (Focus.AtRedex under redex) p = if same_side side under then acted (act_of redex) side p else None
@@ -98,8 +98,8 @@ acted_at side (Focus.AtRedex under redex) p = if same_side side under then acted
 abbrev pub refilled_in : Tree → Tree × LocalState → LocalState
 refilled_in term made = record made.1 { term = fill term made.0 }
 
--- One step, where there is one: a redex on the side, with its input if it takes one. With the answer of a
--- device the run is over, since a call is the last step that an entry tells.
+-- One step, if there is one: a redex on the side, with its input if it takes one. With the answer of a
+-- device the run is over, since a call is the last step of an entry.
 unfoldable pub one_step : Side → LocalState → Option LocalState
 one_step side p = if is_none p.answer then option_map (refilled_in p.term) (acted_at side (focus p.term) p) else None
 

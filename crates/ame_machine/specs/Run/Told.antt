@@ -1,4 +1,4 @@
--- An entry that tells a run.
+-- An entry that reports a run.
 use Rattle.std.specs.Prelude.{◌≡◌, ℕ, ◌==◌, ◌+◌, true, List, Some, None}
 use Rattle.ame_term.specs.Tree.{Val, Tree}
 use Rattle.ame_term.specs.Frame.{Side}

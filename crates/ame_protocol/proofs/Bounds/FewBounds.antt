@@ -1,4 +1,4 @@
--- What few rollbacks tell: the bounds of answers that turned a member back, and of tries.
+-- Bounds from few rollbacks: on the answers that turned members back, and on attempts without an entry.
 use Rattle.std.proofs.Common.{◌≡◌, ℕ, zero, suc, ◌+◌, ◌*◌, ◌<◌, ◌≤◌, ◌==◌, ◌⊎◌, inl, inr, true, List, [], ◌∷◌, length, All, Option, Some, None, refl, sym, ap, ◌∙◌, subst, arith}
 use Rattle.std.proofs.lemmas.List.Elements.{All-head, All-tail, All-cons, All-weaker}
 use Rattle.std.proofs.lemmas.List.Sums.{sum_by-le}
@@ -48,7 +48,7 @@ pub members-few : (parts : Parts) → Simulates parts → IsRising parts.pool.me
 members-few parts s rises =
     let h = rising-length 0 parts.next parts.pool.members (omega arith) (λ k d lt. omega arith) (members-below parts s rises) rises in omega arith
 
--- The members as they are once so many seats have brought home those that turned back
+-- The members after some seats have brought home those that turned back
 
 record AreHome (parts : Parts) (n : ℕ) : Type 0 where
   pub members : List (Member Tree)

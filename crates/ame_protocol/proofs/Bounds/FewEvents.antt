@@ -111,7 +111,7 @@ module _ (refused : ℕ) (parts : Parts) (s : Simulates parts) (a : HasFewRollba
 
 -- The way home
 
--- an attempt that no entry tells is one more try of its member
+-- Returns one for its member if an attempt has no entry.
 abbrev pub try_of : ℕ → Attempt → ℕ
 try_of i attempt = cond attempt.logged 0 (cond (attempt.tried.number == i) 1 0)
 
@@ -172,7 +172,7 @@ module _ (refused : ℕ) (parts : Parts) (s : Simulates parts) (a : HasFewRollba
       by i rolls more (inr apart) =
           let t = tries-with i attempt parts.tried in let f = try-else i attempt apart in let r = rolls.others i apart in omega arith
 
-  -- of a noted member: its note tells the attempt
+  -- A noted member goes home: its note is the entry of the attempt.
   pub noted-home : attempt.logged ≡ true → turning_back was ≡ 0 → (turns : ℕ) → HasFewRollbacks refused (gone_parts seat attempt Reason.Noted turns parts)
   noted-home told none turns =
       let rolls = altered-unrolled attempt.tried.number at_rest (λ _. refl) parts.pool.members (λ _. refl) in
@@ -194,7 +194,7 @@ module _ (refused : ℕ) (parts : Parts) (s : Simulates parts) (a : HasFewRollba
         room = omega arith;
       })
 
-  -- once a stop is kept: the member is late, unless an entry tells the attempt
+  -- Once a stop is kept the member is late, unless an entry was added for the attempt.
   abbrev late_with : Bool → List ℕ
   late_with told = cond told a.late (a.late ++ attempt.tried.number ∷ [])
 

@@ -1,4 +1,4 @@
--- What an event of a seat owes, so that rollbacks and tries stay few.
+-- The obligations of a seat's event for rollbacks and attempts to stay few.
 use Rattle.std.proofs.Common.{◌≡◌, ℕ, ◌+◌, ◌*◌, ◌<◌, ◌≤◌, ◌⊎◌, inl, inr, true, false, List, [], length, set, Option, Some, refl, sym, ap, ◌∙◌, subst, arith}
 use Rattle.std.specs.Prelude.{option_map}
 use Rattle.ame_term.specs.Tree.{Val}
@@ -16,7 +16,7 @@ use Rattle.ame_protocol.specs.Bounds.Tries.{tries_of, entries_of, times, at_work
 use Rattle.ame_protocol.specs.Bounds.FewRollbacks.{HasFewRollbacks}
 use Rattle.ame_protocol.proofs.Bounds.SeatLemmas.{over-one}
 
--- a reason stays where the seat's member may be rolled back as before, and a stop stays
+-- A reason stays if the seat's member may be rolled back as before, and a kept stop stays.
 reason-on : (old new : Parts) (task : Task) → ((i : ℕ) → member_of task ≡ Some i → MayTurnBack i old.pool → MayTurnBack i new.pool)
     → (old.stopped ≡ true → new.stopped ≡ true) → HasReason old task → HasReason new task
 reason-on old new Task.Idle kept stays h = h
@@ -26,7 +26,7 @@ reason-on old new (Task.Undoing attempt Reason.RolledBack) kept stays h = kept a
 reason-on old new (Task.Undoing attempt Reason.Noted) kept stays h = h
 reason-on old new (Task.Undoing attempt Reason.Stopped) kept stays h = stays h
 
--- the sum over seats, where one seat has another task
+-- The sum over seats if one seat has another task.
 pub sums-step : (old new : Parts) (seat : ℕ) (was now : Task) (f : Task → ℕ) → seat < old.limits.seats → new.limits.seats ≡ old.limits.seats
     → task_at old.tasks seat ≡ was → task_at new.tasks seat ≡ now → ((k : ℕ) → (k ≡ seat → ⊥) → task_at new.tasks k ≡ task_at old.tasks k)
     → over_seats new.limits.seats (λ k. f (task_at new.tasks k)) + f was ≡ over_seats old.limits.seats (λ k. f (task_at old.tasks k)) + f now

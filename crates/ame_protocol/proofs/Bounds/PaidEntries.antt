@@ -218,7 +218,7 @@ module _ (parts : Parts) (s : Simulates parts) (a : HasPaidTurns parts) (seat : 
       told-as (note_entry kind seat attempt.tried.number n p) (Task.Free attempt) (Task.Free (told_attempt attempt)) attempt had refl
       (let h = free-used parts s a seat attempt had n (low attempt refl) in omega arith) refl (λ x e. told-steps attempt x e)
 
--- What follows
+-- Consequences
 
 pub turns-bounded : (parts : Parts) → HasPaidTurns parts → ((seat : ℕ) → task_at parts.tasks seat ≡ Task.Idle)
     → parts.turns ≤ paid parts.limits.slice parts.entries parts.tried

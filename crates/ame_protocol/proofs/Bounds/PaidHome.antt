@@ -135,7 +135,7 @@ module _ (parts : Parts) (s : Simulates parts) (a : HasPaidTurns parts) (seat : 
         by true e = home-by reason parts.turns few (let h = stopped e in omega arith)
         by false e = home-by reason (parts.turns + 1) few (let h = going e in omega arith)
 
-    -- what an attempt may have used is less than what its try pays, also where it is undone
+    -- An attempt may have used fewer turns than those for which it pays, also if it is undone.
     used-few : used_at slice row attempt + (1 + (length row.inputs - length row.undos)) + 1 ≤ 3 * (attempt.tried.steps + slice + 1)
     used-few = let i = a.inputs seat attempt has in let d = div-le_self attempt.tried.steps slice in let z = a.some_slice in omega arith
 

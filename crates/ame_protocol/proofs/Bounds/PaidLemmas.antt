@@ -1,4 +1,4 @@
--- What an event of a seat owes, so that the turns stay paid.
+-- The obligations of a seat's event for the turns to stay paid.
 use Rattle.std.proofs.Common.{◌≡◌, ℕ, ◌+◌, ◌*◌, ◌<◌, ◌≤◌, ◌⊎◌, inl, inr, Bool, true, false, List, [], ◌∷◌, ◌++◌, length, Some, sym, ap, ◌∙◌, subst, arith}
 use Rattle.std.specs.Prelude.{if◌then◌else◌}
 use Rattle.std.proofs.lemmas.List.Sums.{sum_by_push}
@@ -34,7 +34,7 @@ pub record PaidStep (old new : Parts) (seat : ℕ) (was now : Task) : Type 0 whe
   pub told : new.stopped ≡ false → IsToldInTime now
 
 module _ (old new : Parts) (a : HasPaidTurns old) (seat : ℕ) (was now : Task) (st : PaidStep old new seat was now) where
-  -- the sum over seats of a number that a row and its task tell
+  -- The sum over seats of a number that depends on a row and its task.
   sums : (f : Log Val → Task → ℕ)
       → over_seats old.limits.seats (λ k. f (row_at new.memory.rows k) (task_at new.tasks k)) + f (row_at old.memory.rows seat) was
       ≡ over_seats old.limits.seats (λ k. f (row_at old.memory.rows k) (task_at old.tasks k)) + f (row_at new.memory.rows seat) now
@@ -107,7 +107,7 @@ module _ (old new : Parts) (a : HasPaidTurns old) (seat : ℕ) (was now : Task) 
     told = told;
   }
 
--- Allowances by whether an entry tells the attempt
+-- Allowances, with an entry for the attempt or without
 
 pub untold : (told : Bool) (x : ℕ) → told ≡ false → (if told then 0 else x) ≡ x
 untold told x e = ap (λ (b : Bool). if b then 0 else x) e
@@ -119,7 +119,7 @@ pub told-less : (told : Bool) (x : ℕ) → (if told then 0 else x) ≤ x
 told-less true x = omega arith
 told-less false x = omega arith
 
--- What an entry and a try pay
+-- The turns for which an entry or an attempt pays
 
 pub paid-entry : (slice : ℕ) (entries : List Entry) (e : Entry) (tried : List Tried)
     → paid slice (entries ++ e ∷ []) tried ≡ paid slice entries tried + 3 * (e.steps + 1)

@@ -1,4 +1,4 @@
--- What each event makes of the members' rollbacks.
+-- The members' rollbacks after each event.
 use Rattle.std.proofs.Common.{◌≡◌, ℕ, ◌+◌, ◌<◌, ◌⊎◌, inl, inr, true, false, List, [], ◌∷◌, map, min, Option, Some, None, refl, sym, ap, ◌∙◌, subst, arith}
 use Rattle.std.specs.Prelude.{option_map, unwrap_or, IsSomeAnd}
 use Rattle.std.proofs.lemmas.List.Sums.{sum_by-cons}
@@ -16,7 +16,7 @@ use Rattle.ame_protocol.specs.Engine.Events.{woken_for, with_newcomers}
 use Rattle.ame_protocol.proofs.Engine.GrowthLemmas.{IsFreeFrom, joined-free}
 use Rattle.ame_protocol.specs.Bounds.Rollbacks.{rollbacks_in}
 
--- the rollbacks that are told of a member that was looked for
+-- Returns the rollbacks of a member that was looked for.
 abbrev pub told_of : Option (Member Tree) → ℕ
 told_of o = unwrap_or (option_map (λ (m : Member Tree). m.rollbacks) o) 0
 
@@ -171,7 +171,7 @@ newcomers-unrolled next (body ∷ bodies) pool free =
     unrolled-on pool.members mid.members (with_newcomers (next + 1) bodies mid).members (joined-unrolled next body pool free)
     (newcomers-unrolled (next + 1) bodies mid (joined-free next body pool free))
 
--- What the member itself has then
+-- The rollbacks of the member itself
 
 pub rolled-more : (n : ℕ) (ms : List (Member Tree)) → MayTurn (find n ms) → told_of (find n (altered n (at_home true) ms)) ≡ told_of (find n ms) + 1
 rolled-more n ms may = ap told_of (found_altered n (at_home true) (λ _. refl) ms).here ∙ by (find n ms) may

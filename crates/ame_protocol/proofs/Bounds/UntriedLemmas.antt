@@ -106,7 +106,7 @@ module _ (parts : Parts) (s : Simulates parts) (u : IsUntried parts) (seat : ℕ
 -- The only seat's row is cut off
 
 module _ (parts : Parts) (s : Simulates parts) (u : IsUntried parts) (lone : parts.limits.seats ≡ 1) (seat : ℕ) where
-  -- where the only seat is at work, every other one is idle
+  -- If the only seat is at work, every other one is idle.
   others-idle : seat < parts.limits.seats → (k : ℕ) → (k ≡ seat → ⊥) → task_at parts.tasks k ≡ Task.Idle
   others-idle there k apart = by (task_at parts.tasks k) refl
     where

@@ -36,7 +36,7 @@ use Rattle.ame_protocol.proofs.Engine.BeginLemmas.{Begins, oldest-begins, begins
 
 -- Start and stop
 
--- where each seat is idle
+-- Each seat is idle.
 pub rest-alone : (parts : Parts) → ((seat : ℕ) → task_at parts.tasks seat ≡ Task.Idle) → RunsExclusively parts
 rest-alone parts idle = record {
   alone = λ k other t exhausted e. absurd (nobody k exhausted.task);
@@ -283,7 +283,7 @@ module _ (parts : Parts) (s : Simulates parts) (a : RunsExclusively parts) (seat
     or-right true c e = refl
     or-right false c e = e
 
-    -- where an exhausted member is at work on another seat
+    -- An exhausted member is at work on another seat.
     no-other : (k : ℕ) (t : Attempt) → IsExhausted parts k t → ⊥
     no-other k t exhausted =
         clash k exhausted.task
@@ -294,7 +294,7 @@ module _ (parts : Parts) (s : Simulates parts) (a : RunsExclusively parts) (seat
         let same : Some m.0 ≡ Some x = sym m.1 ∙ ap (λ (z : Attempt). find z.tried.number parts.pool.members) one ∙ found in
         let is : m.0 ≡ x = cc in or-right (is_exhausted begins.member) (is_exhausted x) (subst (λ (z : Member Tree). is_exhausted z ≡ true) is m.2))
 
-    -- where the member that begins is exhausted
+    -- The member that begins is exhausted.
     no-beside : (k : ℕ) → is_of_protected (task_at parts.tasks k) ≡ true → IsAt is_exhausted number pool → ⊥
     no-beside k protected exhausted =
         let m = found-at parts.pool number is_exhausted (exhausted-back number exhausted) in

@@ -73,7 +73,7 @@ module _ (parts : Parts) (s : Simulates parts) (a : RunsExclusively parts) (seat
   in_rows : seat < length parts.memory.rows
   in_rows = within parts s seat attempt task
 
-  -- what keeps the tasks, where the seat's own reads stay valid
+  -- An event keeps the tasks, and the seat's own reads stay valid.
   kept : (memory : MemoryView Val) (turns : ℕ)
       → (IsExhausted parts seat attempt → parts.stopped ≡ false → AreValid (heap_in parts) seat run.reads
       → AreValid (heap_of memory) seat (logged_run (term_at parts.pool attempt.tried.number) (row_at memory.rows seat)).reads)

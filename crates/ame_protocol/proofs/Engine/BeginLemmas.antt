@@ -1,4 +1,4 @@
--- Who may begin.
+-- The members that may begin.
 use Rattle.std.proofs.Common.{◌≡◌, ℕ, ◌==◌, ◌&&◌, ◌||◌, Bool, true, false, not, cond, List, [], ◌∷◌, ◌++◌, Option, Some, None, refl, sym, ap, ◌∙◌}
 use Rattle.std.specs.List.{list_any, list_all}
 use Rattle.ame_term.specs.Tree.{Tree}
@@ -9,7 +9,7 @@ use Rattle.ame_pool.specs.Roster.{Roster}
 use Rattle.ame_pool.specs.Begin.{is_protected, is_exhausted, is_exhausted_protected, some_busy, may_begin, first_to_begin, members_of, oldest_or_wait, oldest}
 use Rattle.ame_pool.proofs.MemberLemmas.{find_number}
 
--- a member that may begin, where some were older
+-- A member may begin, and some members are older.
 pub record Begins (ms : List (Member Tree)) (k : ℕ) : Type 0 where
   pub older : List (Member Tree)
   pub member : Member Tree
@@ -58,7 +58,7 @@ oldest-begins pool k e = by pool.members refl e
     by [] is e = cc
     by (m ∷ ms) is e = first-begins pool.members pool.order [] k (choose (list_all is_parked pool.members) e)
 
--- where none of a kind is there, no member that is found is of it
+-- If no member of a kind is there, none that is found is of it.
 pub none-found : (p : Member Tree → Bool) (ms : List (Member Tree)) (i : ℕ) (x : Member Tree) → list_any p ms ≡ false → find i ms ≡ Some x → p x ≡ false
 none-found p [] i x none e = cc
 none-found p (m ∷ ms) i x none e = by (m.number == i) (p m) refl none e (λ rest found. none-found p ms i x rest found)
@@ -70,7 +70,7 @@ none-found p (m ∷ ms) i x none e = by (m.number == i) (p m) refl none e (λ re
     by false true is none e go = cc
     by false false is none e go = go none e
 
--- what a protected member that may begin tells of the busy ones
+-- If a protected member may begin, this is so of the busy ones.
 pub begins-beside : (ms : List (Member Tree)) (k : ℕ) (b : Begins ms k) → b.member.inside ≡ false
     → (i : ℕ) (x : Member Tree) → find i ms ≡ Some x → is_busy x ≡ true → x.inside ≡ false → (is_exhausted b.member || is_exhausted x) ≡ true → ⊥
 begins-beside ms k b outside i x found busy its exhausted = by (is_exhausted b.member) refl may exhausted

@@ -290,7 +290,7 @@ module _ (parts : Parts) (s : Simulates parts) (seat : ℕ) (attempt : Attempt) 
           sound = tries-on parts new goes parts.tried s.sound;
         })
 
-  -- How the member has ended or left
+  -- The ways in which the member has ended or left
 
   term-there : at s.r.state.members number ≡ Some (term_at parts.pool number)
   term-there = s.stands.members number ∙ found-machine parts.pool number false its-runs.work.busy
@@ -391,7 +391,7 @@ module _ (parts : Parts) (s : Simulates parts) (seat : ℕ) (attempt : Attempt) 
         others = left_found.others;
       })
 
-  -- also where it stood there from the first
+  -- This also holds if it was there from the first.
   arrived : at_unprotected (focus run.start) ≡ true → Simulates (has_left seat number n p ls parts)
   unfolding replay_entry
   arrived at_it =

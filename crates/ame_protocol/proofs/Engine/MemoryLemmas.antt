@@ -30,7 +30,7 @@ found c l cell e = get_or_from_slice_get c.cells l cell no_cell e
 pub there : (c : MemoryView Val) (l : ℕ) → IsCell (heap_of c) l → slice_get c.cells l ≡ Some (cell_at (heap_of c) l)
 there c l within = slice_get-get_or c.cells l no_cell within
 
--- What is committed
+-- Committed values
 
 dead-by : (c : MemoryView Val) (l : ℕ) (o : Option (Cell Val)) → slice_get c.cells l ≡ o → IsDead (cell_at (heap_of c) l) → committed c l ≡ None
 dead-by c l None e dead = ap (shown_at c.rows l) e

@@ -36,7 +36,7 @@ busy-not_ready noted m busy ready = by noted m.standing busy ready
 -- One member is altered
 
 module _ (n : ℕ) (f : Member Tree → Member Tree) (ms ns : List (Member Tree)) (found : IsFoundAfter n (option_map f) ms ns) where
-  -- what is told of a member stays, where it stays for the altered one
+  -- A fact of a member stays if the change of a member keeps it.
   pub told-stays : {X : Type 0} (tell : Option (Member Tree) → X) → ((o : Option (Member Tree)) → tell (option_map f o) ≡ tell o) → (i : ℕ) → tell (find i ns) ≡ tell (find i ms)
   told-stays tell stays i = by (which i n)
     where
@@ -59,7 +59,7 @@ module _ (n : ℕ) (f : Member Tree → Member Tree) (ms ns : List (Member Tree)
     pub sides-stay : (i : ℕ) → option_map (λ (m : Member Tree). m.inside) (find i ns) ≡ option_map (λ (m : Member Tree). m.inside) (find i ms)
     sides-stay i = told-stays (option_map (λ (m : Member Tree). m.inside)) inside-of i
 
--- whether a member is inside, by what is told of it
+-- A member is inside as its entry in the list says.
 pub inside-told : (ms : List (Member Tree)) (i : ℕ) → is_inside_at ms i ≡ unwrap_or (option_map (λ (m : Member Tree). m.inside) (find i ms)) false
 inside-told ms i = by (find i ms)
   where

@@ -223,7 +223,7 @@ module _ {V : Type 0} (view : V → Val) where
       ∙ (λ i. by_seat seat ((cells-undone row.undos c.cells) i) ((notes-undone row) i) (shown_memory view c))
       ∙ (λ i. by_seat seat (cells_undone ((sym (row-shown c.rows seat)) i).undos (map cell_of c.cells)) (notes_undone ((sym (row-shown c.rows seat)) i)) (shown_memory view c))
 
-  -- What is committed, and that cells and logs say the same
+  -- Committed values; cells and logs agree
 
   entry-shown : (us : List (Undo V)) (l : ℕ) → entry_at (map undo_of us) l ≡ option_map undo_of (entry_at us l)
   entry-shown [] l = refl

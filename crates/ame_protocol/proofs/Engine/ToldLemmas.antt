@@ -1,4 +1,4 @@
--- What an engine that stands tells, and a stop.
+-- Consequences of the simulation, and of a stop.
 use Rattle.std.proofs.Common.{◌≡◌, ℕ, ◌+◌, ◌*◌, ◌^◌, ◌<◌, ◌≤◌, All, [], Option, Some, None, length, MatchOption, refl, sym, ◌∙◌, arith}
 use Rattle.std.proofs.lemmas.List.{append-nil}
 use Rattle.std.proofs.lemmas.List.Elements.{All-from_get_or}

@@ -93,7 +93,7 @@ untried-any Stop.NoMemory parts one u leaves = tt
 untried-any Stop.WriteFault parts one u leaves = tt
 untried-any (Stop.DeviceFault device) parts one u leaves = tt
 
--- Where nobody is at work
+-- No member is at work
 
 pub idle-bounded : (parts : Parts) (counters : Counters) → refusals counters ≡ 0 → parts.tried ≡ [] → 1 ≤ parts.limits.slice → parts.turns ≡ 0
     → ((seat : ℕ) → task_at parts.tasks seat ≡ Task.Idle) → ((seat : ℕ) → row_at parts.memory.rows seat ≡ no_log) → KeepsBounds None counters parts
@@ -103,7 +103,7 @@ idle-bounded parts counters none untried slice turns idle clear = record {
   untried = λ one. idle-untried parts untried idle;
 }
 
--- What a seat does while no stop is kept
+-- The events of a seat while no stop is kept
 
 module _ (parts : Parts) (s : Simulates parts) (stop : Option Stop) (none : stop ≡ None) (going : parts.stopped ≡ false) (counters later : Counters)
     (bounded : KeepsBounds stop counters parts) where
@@ -188,7 +188,7 @@ module _ (parts : Parts) (s : Simulates parts) (stop : Option Stop) (none : stop
             (Task.Running (checked_attempt n attempt parts)) refl refl refl (subst (IsToldOf parts.stopped) task ((b.untried one).told seat));
       })
 
-      -- an entry tells of it
+      -- An entry was added for it.
       module _ (within : IsWithinRollbacks parts.pool) (n : ℕ) (p : LocalState) (used : HasUsed (run_in parts seat attempt.tried.number) n p)
           (low : attempt.tried.steps ≤ n) where
         pub ended-bounded : IsRising parts.pool.members → (ls : List ℕ) → KeepsBounds stop later (has_ended seat attempt.tried.number n p ls parts)

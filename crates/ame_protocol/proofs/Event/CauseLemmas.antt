@@ -22,12 +22,12 @@ use Rattle.ame_protocol.specs.Engine.Tasks.{is_busy_as, is_noted_for, RunsProtec
 use Rattle.ame_protocol.specs.Engine.Simulates.{Simulates}
 use Rattle.ame_protocol.specs.Engine.Events.{brought_home}
 use Rattle.ame_protocol.proofs.Engine.PoolLemmas.{found-at}
-use Rattle.ame_protocol.specs.declared.certificate.Certificate.{Certificate}
+use Rattle.ame_journal.specs.declared.certificate.Certificate.{Certificate}
 use Rattle.ame_protocol.specs.declared.stop.Stop.{Stop}
 use Rattle.ame_protocol.specs.Event.Causes.{is_from_outside, is_ordinary, AreOrdinary, IsUsedUp, NotesStop, HasCause}
 use Rattle.ame_protocol.specs.Event.Faults.{LeadsToCall}
 
--- Where a member is at work the pool isn't empty, and not all are parked
+-- If a member is at work the pool isn't empty, and not all members are parked
 
 busy-unparked : (noted : Bool) (m : Member Tree) → IsTrue (is_busy_as noted m) → is_parked m ≡ false
 busy-unparked noted m h = by noted m.standing h
@@ -86,7 +86,7 @@ busy-more parts number noted busy =
       empty = not-empty parts.pool.members number m.0 m.1;
     }
 
--- so it is where a seat has one
+-- This also holds if a seat has a member at work.
 pub task-more : (parts : Parts) → Simulates parts → (seat : ℕ) (attempt : Attempt) → attempt_of (task_at parts.tasks seat) ≡ Some attempt → HasMore parts
 task-more parts s seat attempt has = by (task_at parts.tasks seat) has (s.seats seat)
   where
@@ -107,14 +107,14 @@ empty-oldest pool none = by pool.members none
     by [] e = refl
     by (o ∷ ms) e = absurd (let clash : ◌≡◌ {A = List (Member Tree)} (o ∷ ms) [] = e in cc)
 
--- and where one begins
+-- This also holds if a member begins.
 pub begins-more : (parts : Parts) (number : ℕ) → oldest parts.pool ≡ Oldest.Member number → HasMore parts
 begins-more parts number first = record {
   parked = λ e. let clash : Oldest.Member number ≡ Oldest.Parked = sym first ∙ e in cc;
   empty = λ e. let clash : Oldest.Member number ≡ Oldest.Empty = sym first ∙ empty-oldest parts.pool e in cc;
 }
 
--- what a journal leads to stays where it does
+-- A fact of the state to which a journal leads stays while the journal does.
 pub record SameJournal (parts new : Parts) : Type 0 where
   pub program : new.program ≡ parts.program
   pub base : new.base ≡ parts.base
@@ -149,7 +149,7 @@ module _ (parts new : Parts) (more : HasMore parts) (same : SameJournal parts ne
   working-cause left (Some (Stop.DeviceFault device)) certificates h =
       record { cause = call-same parts new same device h.cause; told = h.told; ends = ends-same (Some (Stop.DeviceFault device)) h.ends }
 
-  -- or once a stop is kept, where turns and limits stay and a member is left
+  -- This also holds once a stop is kept, if turns and limits stay and a member is left.
   pub undoing-cause : new.limits ≡ parts.limits → (new.pool.members ≡ [] → ⊥) → (stop : Option Stop) → (is_some stop ≡ true → new.turns ≡ parts.turns)
       → (certificates : List Certificate) → HasCause stop certificates parts → HasCause stop certificates new
   undoing-cause limits some None turns certificates h = record { cause = tt; told = h.told; ends = ends-same None h.ends }
@@ -225,7 +225,7 @@ pub refused-cause : (device : ℕ) (parts new : Parts) (certificates : List Cert
 refused-cause device parts new certificates h same leads =
     record { cause = call-same parts new same device leads; told = h.told; ends = subst AreOrdinary (sym same.entries) h.ends }
 
--- or is found where a seat begins
+-- This also holds if a seat that begins finds it.
 pub empty-members : (pool : Roster Tree) → oldest pool ≡ Oldest.Empty → pool.members ≡ []
 empty-members pool e = by pool.members refl e
   where

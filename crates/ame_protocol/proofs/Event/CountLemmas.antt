@@ -54,7 +54,7 @@ module _ (turns : ℕ) (c : Counters) (counts : CountsTurns turns c) where
     invalid = let e = invalids-stay kind c in let h = counts.invalid in omega arith;
   }
 
-  -- where it told that a read isn't valid
+  -- The answer was that a read isn't valid.
   pub invalid-counts : (kind : Counted) → CountsTurns (turns + 1) (one_invalid kind c)
   invalid-counts kind = record {
     all = (one-counts kind).all;

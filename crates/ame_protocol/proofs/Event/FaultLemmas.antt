@@ -17,7 +17,7 @@ use Rattle.ame_machine.specs.Run.Local.{LocalState, begun_with, local}
 use Rattle.ame_machine.proofs.Run.RunLemmas.{Acts, step-is}
 use Rattle.ame_protocol.proofs.Visits.PlaceLemmas.{alone}
 
--- the labels of so many steps alone
+-- Returns the labels of a number of steps under `unprotected`.
 abbrev alone-labels : ℕ → ℕ → List Label
 alone-labels i n = free_labels i (replicate n StepKind.Local)
 

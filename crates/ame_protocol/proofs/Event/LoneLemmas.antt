@@ -64,7 +64,7 @@ module _ (parts : Parts) (s : Simulates parts) (one : parts.limits.seats ≡ 1) 
 
 -- Events
 
--- where all seats are idle and nothing was met
+-- All seats are idle and nothing was met.
 pub lone-idle : (parts : Parts) (counters : Counters) → ((seat : ℕ) → task_at parts.tasks seat ≡ Task.Idle) → IsUndisturbed counters → IsLone parts counters
 lone-idle parts counters idle calm = record {
   counts = λ one. calm;
@@ -121,7 +121,7 @@ module _ (parts new : Parts) (s : Simulates parts) (counters later : Counters) (
       none : (row_at new.memory.rows seat).reads ≡ []
       none = ap (λ (d : MemoryView Val). (row_at d.rows seat).reads) memory ∙ ap (λ (n : Log Val). n.reads) clear
 
-  -- it runs on, or an entry tells what it has at work
+  -- The seat runs on, or an entry was added for its work.
   pub lone-on : (next : Task) → new.tasks ≡ set parts.tasks seat next → new.memory ≡ parts.memory
       → ((t : Attempt) → next ≡ Task.Running t → (a : Attempt) × (task_at parts.tasks seat ≡ Task.Running a)) → IsLone new later
   lone-on next tasks memory ran =
@@ -135,7 +135,7 @@ module _ (parts new : Parts) (s : Simulates parts) (counters later : Counters) (
       → IsLone new later
   lone-access attempt task tasks on = lone-as (ap length tasks) (λ one t run. on one (lone.valid one seat attempt task))
 
--- a task that was told ran before
+-- A running task that has an entry ran before.
 pub told-ran : (task : Task) (t : Attempt) → told_task task ≡ Task.Running t → (a : Attempt) × (task ≡ Task.Running a)
 told-ran Task.Idle t e = absurd (let clash : Task.Idle ≡ Task.Running t = e in cc)
 told-ran (Task.Running a) t e = (a, refl)

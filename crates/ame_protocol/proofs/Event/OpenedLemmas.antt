@@ -45,7 +45,7 @@ ready-good {M} pool r = record {
       (λ m h. let none : m.rollbacks ≡ 0 = h.1 in omega arith) pool.members r.ready;
 }
 
--- nobody waits
+-- No member waits.
 opened-waiting : (parts : Parts) → AreReady parts.pool → AreWaiting parts
 opened-waiting parts r = record { failed = λ i ws e. absurd (by i ws (find i parts.pool.members) refl e) }
   where
@@ -55,7 +55,7 @@ opened-waiting parts r = record { failed = λ i ws e. absurd (by i ws (find i pa
         let ready = find_passes (λ (z : Member Tree). (z.standing ≡ Standing.Ready) × (z.rollbacks ≡ 0)) i parts.pool.members r.ready m is in
         let clash : ◌≡◌ {A = Option (List ℕ)} None (Some ws) = sym (ap watch_list ready.0) ∙ e in cc
 
--- and nobody is busy
+-- No member is busy.
 opened-still : (pool : Roster Tree) → AreReady pool → (i : ℕ) → IsAt is_busy i pool → ⊥
 opened-still pool r i busy = by (find i pool.members) refl busy
   where

@@ -33,7 +33,7 @@ good-brought Reason.RolledBack number pool good = good-home number true pool goo
 good-brought Reason.Noted number pool good = good-parked number pool good
 good-brought Reason.Stopped number pool good = good-home number false pool good
 
--- Who is busy
+-- Busy members
 
 -- busy members of a pool were so in another, and this one isn't busy any more
 pub record LeavesBusy (old new : Roster Tree) (number : ℕ) : Type 0 where

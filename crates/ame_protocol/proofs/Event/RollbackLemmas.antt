@@ -81,7 +81,7 @@ module _ {M : Type 0} where
     few = All-map IsFew (stirred_by l) pool.members (All-weaker IsFew (λ m. IsFew (stirred_by l m)) (λ m h. h) pool.members good.few);
   }
 
-  -- so with whoever watches one of some locations
+  -- This also holds after waking each member that watches one of some locations.
   pub woken-good : (ls : List ℕ) (pool : Roster M) → IsGoodPool pool → IsGoodPool (woken_for ls pool)
   woken-good [] pool good = good
   woken-good (l ∷ ls) pool good = woken-good ls (woken l pool) (good-woken l pool good)

@@ -25,7 +25,7 @@ pub follows-more : (es : List Event) (s end : State) (e : Event) → Follows s e
 follows-more [] s end e run may = (subst (May e) run may, ap (after e) run)
 follows-more (first ∷ es) s end e run may = (run.0, follows-more es (after first s) end e run.1 may)
 
--- What no event changes
+-- Limits, which no event changes
 
 undo-limits : (parts : Parts) → (undo_turn parts).limits ≡ parts.limits
 undo-limits parts = by parts.stopped
@@ -57,7 +57,7 @@ limits-stay (Event.Cut seat attempt steps place) s = refl
 limits-stay (Event.Tall seat attempt steps place) s = refl
 limits-stay (Event.Halt why) s = refl
 
--- What a run tells
+-- The entries of a run
 
 undo-tells : (parts : Parts) → (undo_turn parts).entries ≡ parts.entries
 undo-tells parts = by parts.stopped
@@ -95,7 +95,7 @@ run-tells (e ∷ es) s end run =
     run-tells es (after e s) end run.1 ∙ ap (λ (xs : List Entry). xs ++ entries_along es) (event-tells e s)
     ∙ append_assoc s.parts.entries (entries_told e) (entries_along es)
 
--- What a run takes
+-- The turns of a run
 
 -- a kept stop stays kept
 stop-stays : (e : Event) (s : State) → (after e s).stop ≡ None → s.stop ≡ None

@@ -9,11 +9,11 @@ use Rattle.ame_protocol.proofs.Row.CellLemmas.{which}
 use Rattle.ame_protocol.specs.Event.Seated.{AreSeated}
 use Rattle.ame_protocol.proofs.Event.PoolLemmas.{LeavesBusy}
 
--- where nobody is busy
+-- No member is busy.
 pub seated-none : (parts : Parts) → ((i : ℕ) → IsAt is_busy i parts.pool → ⊥) → AreSeated parts
 seated-none parts none = λ i busy. absurd (none i busy)
 
--- where the tasks stay, and who is busy was so
+-- The tasks stay, and each busy member was busy before.
 pub seated-still : (old new : Parts) → new.tasks ≡ old.tasks → ((i : ℕ) → IsAt is_busy i new.pool → IsAt is_busy i old.pool) → AreSeated old → AreSeated new
 seated-still old new tasks before seated = λ i busy.
     let its = seated i (before i busy) in (its.0, ap (λ (ts : List Task). member_of (task_at ts its.0)) tasks ∙ its.1)

@@ -41,7 +41,7 @@ use Rattle.ame_protocol.proofs.Event.SeatedLemmas.{seated-none}
 use Rattle.ame_protocol.proofs.Engine.AloneEvents.{rest-alone}
 use Rattle.ame_protocol.proofs.Waits.TaskLemmas.{nobody-waiting}
 
--- Where each seat is idle and each member ready, nothing was counted yet, and no entry was added
+-- If each seat is idle and each member ready, nothing was counted yet, and no entry was added
 
 module _ (parts : Parts) (stands : Simulates parts) (pool : IsGoodPool parts.pool) (once : AreNotedOnce parts) (slice : 1 ≤ parts.limits.slice)
     (idle : (seat : ℕ) → task_at parts.tasks seat ≡ Task.Idle) (clear : (seat : ℕ) → row_at parts.memory.rows seat ≡ no_log)

@@ -20,7 +20,7 @@ use Rattle.ame_protocol.proofs.Visits.NoteLemmas.{cut-alone, cut-stands, tall-al
 use Rattle.ame_protocol.proofs.Waits.OnceEvents.{stop-once}
 use Rattle.ame_protocol.proofs.Waits.TaskLemmas.{stop-waiting}
 use Rattle.ame_protocol.proofs.Waits.VisitLemmas.{told-once, told-waiting}
-use Rattle.ame_protocol.specs.Event.Causes.{AreOrdinary, EndsWith, IsCause, NotesStop, certificates_for}
+use Rattle.ame_protocol.specs.Event.Causes.{AreOrdinary, EndsWith, IsCause, NotesStop, certificates_for, only_seats_keep}
 use Rattle.ame_protocol.specs.Event.Counting.{Counted, one_counted}
 use Rattle.ame_protocol.specs.declared.stop.Stop.{Stop}
 use Rattle.ame_protocol.proofs.Event.BoundLemmas.{cut-bounded, stop-bounded, tall-bounded}
@@ -153,11 +153,11 @@ cause-stopped Stop.NoMemory x e = tt
 cause-stopped Stop.WriteFault x e = tt
 cause-stopped (Stop.DeviceFault device) x e = e
 
-notes-none : (why : Stop) (entries : List Entry) → ((number : ℕ) → why ≡ Stop.Tall number → ⊥) → AreOrdinary entries → NotesStop (Some why) entries
+notes-none : (why : Stop) (entries : List Entry) → only_seats_keep why ≡ false → AreOrdinary entries → NotesStop (Some why) entries
 notes-none Stop.Finished entries apart all = all
 notes-none Stop.Blocked entries apart all = all
 notes-none Stop.Spent entries apart all = inl all
-notes-none (Stop.Tall number) entries apart all = absurd (apart number refl)
+notes-none (Stop.Tall number) entries apart all = absurd (let clash : true ≡ false = apart in cc)
 notes-none Stop.NoMemory entries apart all = all
 notes-none Stop.WriteFault entries apart all = all
 notes-none (Stop.DeviceFault device) entries apart all = all

@@ -31,7 +31,7 @@ use Rattle.ame_protocol.proofs.Row.CellLemmas.{which, free_or_owned, free-apart,
 use Rattle.ame_protocol.proofs.Row.ReachLemmas.{Reached, reach-of, where-grows, place-grown}
 use Rattle.ame_protocol.proofs.Row.ScopedLemmas.{still-lives}
 
--- what holds of each entry that is found holds of all, where numbers rise
+-- If numbers rise, a fact of each entry that is found holds of all.
 each-from : {X : Type 0} (P : X → Type 0) (es : List (ℕ × X)) → NumbersRise es → ((k : ℕ) (x : X) → at es k ≡ Some x → P x) → Each P es
 unfolding IsStrictlySortedBy
 each-from P [] rise all = tt

@@ -1,4 +1,4 @@
--- What a seat does is framed for every other seat.
+-- The events of a seat are framed for every other seat.
 use Rattle.std.proofs.Common.{◌≡◌, ℕ, ◌+◌, ◌<◌, ◌≤◌, ◌⊎◌, inl, inr, Option, Some, MatchOption, refl, sym, ap, ◌∙◌, subst, arith}
 use Rattle.ame_term.specs.Tree.{Val}
 use Rattle.ame_store.specs.declared.cell.Cell.{Cell}

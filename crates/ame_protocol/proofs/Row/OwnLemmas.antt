@@ -34,7 +34,7 @@ use Rattle.ame_protocol.specs.Row.Own.{begun_seat, given_one, given_outside, giv
 use Rattle.ame_protocol.proofs.Row.CellLemmas.{each, free_or_owned, free-apart, owned_cell, after}
 use Rattle.ame_protocol.proofs.Row.PlaceLemmas.{SameFootprint, goes-footprint, goes-quiet, later-place, later-used, later-footprint}
 
--- what a place was given is told by its footprint
+-- The inputs of a place depend on its footprint only.
 given-there : (heap : Heap) (seat : ℕ) (reads : List ReadNote) (p q : LocalState) → SameFootprint p q → IsGiven heap seat reads p → IsGiven heap seat reads q
 given-there heap seat reads p q same h = record {
   seen = subst (AllByRecursion (IsLogged heap seat reads)) same.seen h.seen;
@@ -43,7 +43,7 @@ given-there heap seat reads p q same h = record {
   sets = subst (λ (sets : List (ℕ × Val)). (l : ℕ) → IsHeld seat (cell_at heap l) (at sets l)) same.sets h.sets;
 }
 
--- so it is after one more input, where it is so after the act
+-- This also holds after one more input, if it holds after the act.
 pub given-on : (heap : Heap) (seat : ℕ) (run : SeatRun) (act : Act) (n : ℕ) (p : LocalState) (v : Val) (reads : List ReadNote) (result : Tree × LocalState) → ComesTo run act n p
     → fed act Side.Protected v p ≡ Some result → IsGiven heap seat reads result.1
     → (m : ℕ) (q : LocalState) → local Side.Protected run.start (run.inputs ++ v ∷ []) m ≡ Some q → q.inputs ≡ [] → IsGiven heap seat reads q

@@ -1,4 +1,4 @@
--- What a seat reaches, and types that grow with it.
+-- The cells that a seat reaches, and types that grow with them.
 use Rattle.std.proofs.Common.{◌≡◌, ℕ, ◌==◌, ◌⊎◌, inl, inr, Bool, true, false, ◌&&◌, ◌||◌, List, Option, Some, None, if◌then◌else◌, refl, ap, ◌∙◌}
 use Rattle.std.proofs.lemmas.Bool.{eqb-true, eq-eqb}
 use Rattle.ame_term.specs.Tree.{Typ, Val, Tree}

@@ -35,7 +35,7 @@ module _ (heap : Heap) (seat : ℕ) (store : List (ℕ × Val)) (c : IsCommitted
     made = each (IsMadeCell heap seat) (λ e. (at store e.0 ≡ None) × (e.1 ≡ None)) made-agrees p.made h.made;
   }
 
--- so it is told by an entry
+-- So an entry records it.
 pub told : (heap : Heap) (seat : ℕ) (run : SeatRun) (r : Replayed) (entry : Entry) (n : ℕ) (p : LocalState) → IsCommitted heap → ShowsStore heap r.state.store
     → IsGivenThroughout heap seat run → AreValid heap seat run.reads → HasUsed run n p → r.state.active ≡ None → side_at entry.number r.state ≡ Side.Protected
     → at r.state.members entry.number ≡ Some run.start → entry.fresh ≡ p.fresh → entry.answer ≡ p.answer → TellsRun r entry Side.Protected n p

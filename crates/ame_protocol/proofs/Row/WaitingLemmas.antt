@@ -192,7 +192,7 @@ waits-home heap seat other watched run n p none h = record {
         by (inl two) = inl two
         by (inr y) = absurd (none l y.0)
 
--- it is told in the state that is there
+-- An entry records it in the state that is there.
 pub waiting-told : (heap : Heap) (seat : ℕ) (watched : List ℕ) (run : SeatRun) (r : Replayed) (entry : Entry) (n : ℕ) (p : LocalState) → IsCommitted heap → ShowsStore heap r.state.store
     → IsWaiting heap seat watched run n p → r.state.active ≡ None → side_at entry.number r.state ≡ Side.Protected → at r.state.members entry.number ≡ Some run.start
     → entry.fresh ≡ p.fresh → entry.answer ≡ p.answer → TellsRun r entry Side.Protected n p

@@ -25,7 +25,7 @@ use Rattle.ame_protocol.specs.Visits.ByAct.{IsGivenBy, memory_after}
 use Rattle.ame_protocol.proofs.Visits.PlaceLemmas.{committed-live}
 use Rattle.ame_protocol.proofs.Visits.SettleLemmas.{Settles, live-grows, settles-same, settles-put, larger_types, settles-born, born-fit}
 
--- What an act makes of the memory, and of the run, which agrees with the store still; and its value is fit.
+-- The memory and the run after an act: the run still agrees with the store, and the act's value is fit.
 pub record IsMadeHere (parts : Parts) (s : Simulates parts) (act : Act) (v : Val) (q : LocalState) : Type 0 where
   pub types : StoreTyping
   pub settles : Settles parts s (memory_after act parts.memory) q.sets types

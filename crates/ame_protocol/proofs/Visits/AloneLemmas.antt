@@ -25,7 +25,7 @@ use Rattle.ame_protocol.specs.Visits.Visit.{has_visited}
 use Rattle.ame_protocol.proofs.Visits.VisitLemmas.{Visited}
 use Rattle.ame_protocol.proofs.Visits.StandLemmas.{below-next, idle-here, its-own, visit-found}
 
--- who is exhausted by what is told of its rollbacks
+-- A member is exhausted by its rollbacks only.
 pub exhausted-told : (old new : Roster Tree) (i : ℕ) → rollbacks_of i new ≡ rollbacks_of i old → IsAt is_exhausted i new → IsAt is_exhausted i old
 exhausted-told old new i same exhausted = by (find i old.members) refl
   where

@@ -1,4 +1,4 @@
--- The calls of devices that the journal tells.
+-- The calls of devices in the journal.
 use Rattle.std.proofs.Common.{◌≡◌, ℕ, zero, suc, ◌+◌, ◌==◌, ℤ, Bool, List, [], ◌∷◌, ◌++◌, Option, Some, None, append_assoc, refl, sym, ap, ◌∙◌, subst, arith}
 use Rattle.std.specs.Prelude.{true, option_and_then, if◌then◌else◌}
 use Rattle.std.proofs.lemmas.List.{append-nil}
@@ -66,7 +66,7 @@ module _ (parts : Parts) (s : Simulates parts) (k : ℕ) where
     abbrev the_call : List (ℤ × ℤ)
     the_call = if device == k then (argument, answer) ∷ [] else []
 
-    -- where the run holds nothing but its term
+    -- The run holds only its term.
     bare-call : (u : Tree) → StepsTo parts number n (begun_with u []) → StandsAt Side.Unprotected (Act.Calls device argument) (begun_with u [])
         → last_call k number (n + 1) [] (Some answer) s.r.state ≡ the_call
     bare-call u ran at_it =

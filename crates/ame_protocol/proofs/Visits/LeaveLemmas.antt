@@ -1,4 +1,4 @@
--- What a visit leaves to other members.
+-- The other members after a visit.
 use Rattle.std.proofs.Common.{ℕ, Bool, false, [], refl}
 use Rattle.std.specs.Prelude.{option_map}
 use Rattle.ame_term.specs.Tree.{Val, Tree}

@@ -80,7 +80,7 @@ module _ (parts : Parts) (s : Simulates parts) (seat : ℕ) (attempt : Attempt) 
     side-there : (b : Bool) → at_unprotected (focus run.start) ≡ b → side_at number s.r.state ≡ side_told b
     side-there b e = ap (λ (o : Option Tree). side_told (has_such (λ term. at_unprotected (focus term)) o)) there ∙ ap side_told e
 
-    -- where it began elsewhere, the run is told by the entry
+    -- If the run began elsewhere, the entry records it.
     module _ (calm_start : at_unprotected (focus run.start) ≡ false) where
       quiet : p.answer ≡ None
       quiet =
@@ -92,7 +92,7 @@ module _ (parts : Parts) (s : Simulates parts) (seat : ℕ) (attempt : Attempt) 
           told (heap_in parts) seat run s.r entry n p (memory-committed parts.memory) s.stands.store its-runs.owes.given valid place idle
           (ap (λ (k : ℕ). side_at k s.r.state) its ∙ side-there false calm_start) (ap (at s.r.state.members) its ∙ there) fresh (answer ∙ sym quiet)
 
-    -- where it stands at `unprotected` from the first, no step is
+    -- If the run began at `unprotected`, it made no step.
     first-cut : at_unprotected (focus run.start) ≡ true → replay_entry s.r (note_entry EntryKind.Cut seat number n p) ≡ Some s.r
     first-cut at_it =
         let stays = stays-there run.start run.inputs n p place.ran at_it in
@@ -221,7 +221,7 @@ module _ (parts : Parts) (seat : ℕ) (task : Task) (attempt : Attempt) (at_it :
   told-here : task_at tasks seat ≡ told_task task
   told-here = task_here parts.tasks seat (told_task task) (seat_within parts.tasks seat attempt (ap attempt_of at_it ∙ has))
 
-  -- what is told of tasks stays, where it is the same of a task for which an entry was added
+  -- A fact of tasks stays if it doesn't depend on whether an entry was added.
   stays : {X : Type 0} (tell : Task → X) → tell (told_task task) ≡ tell task → (k : ℕ) → tell (task_at tasks k) ≡ tell (task_at parts.tasks k)
   stays tell same k = by (which k seat)
     where

@@ -91,7 +91,7 @@ module _ (parts : Parts) (s : Simulates parts) (seat : ℕ) (attempt : Attempt) 
   pub place-typed : (n : ℕ) (p : LocalState) → StepsTo parts number n p → IsTypedPlace parts.signature live Typ.Unit p
   place-typed n p ran = throughout n p ran (ap (λ (z : LocalState). z.inputs) (alone (term_at parts.pool number) n p ran))
 
-  -- What it meets
+  -- The cells that it meets
 
   module _ (n : ℕ) (p : LocalState) (ran : StepsTo parts number n p) where
     pub read-met : (l : ℕ) → StandsAt Side.Unprotected (Act.Reads l) p → MeetsLive (heap_in parts) l Sort.Unprotected

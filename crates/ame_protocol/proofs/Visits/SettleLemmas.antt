@@ -1,4 +1,4 @@
--- What an act of unprotected code makes of a shared memory.
+-- A shared memory after an act of unprotected code.
 use Rattle.std.proofs.Common.{◌≡◌, ℕ, ◌+◌, ◌*◌, ◌<◌, ◌≤◌, ◌⊎◌, inl, inr, List, [], ◌∷◌, All, length, get_or, Option, Some, None, slice_get, length-append, refl, sym, ap, ◌∙◌, subst, arith}
 use Rattle.std.specs.Prelude.{Bool, unwrap_or, if◌then◌else◌, MatchOption}
 use Rattle.std.proofs.lemmas.Bool.{eq-eqb}

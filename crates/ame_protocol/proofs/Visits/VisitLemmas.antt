@@ -1,4 +1,4 @@
--- What a visit comes to is replayed.
+-- The place to which a visit comes is replayed.
 use Rattle.std.proofs.Common.{◌≡◌, ℕ, ◌+◌, ◌<◌, Bool, true, false, List, [], ◌∷◌, Some, None, refl, sym, ap, ◌∙◌, subst, arith}
 use Rattle.std.specs.Prelude.{◌==◌, ◌||◌, not, cond, filter}
 use Rattle.std.specs.List.{list_any}
@@ -41,7 +41,7 @@ use Rattle.ame_protocol.proofs.Visits.PlaceLemmas.{alone, calm, term-there, is-i
 use Rattle.ame_protocol.proofs.Visits.SettleLemmas.{Settles, live-grows, settles-same}
 use Rattle.ame_protocol.proofs.Visits.ActLemmas.{by-act}
 
--- What a visit came to: the memory is settled, the place is typed by what lives, and its entry is replayed.
+-- A visit has come to a place: the memory is settled, the place is typed by the live cells, and its entry is replayed.
 pub record Visited (parts : Parts) (s : Simulates parts) (seat number n : ℕ) (q : LocalState) (inside : Bool) (memory : MemoryView Val) : Type 0 where
   pub types : StoreTyping
   pub settles : Settles parts s memory q.sets types
@@ -54,7 +54,7 @@ pub record Visited (parts : Parts) (s : Simulates parts) (seat number n : ℕ) (
   pub inside_here : is_inside r number ≡ inside
   pub inside_others : (k : ℕ) → (k ≡ number → ⊥) → is_inside r k ≡ is_inside s.r k
 
--- Who is inside once a member has closed
+-- The members inside once a member has closed
 
 left-here : (i : ℕ) (xs : List ℕ) → list_any (λ j. j == i) (filter (λ j. not (j == i)) xs) ≡ false
 left-here i [] = refl
@@ -102,7 +102,7 @@ module _ (parts : Parts) (s : Simulates parts) (seat : ℕ) (attempt : Attempt) 
   abbrev live : StoreTyping
   live = live_types (heap_in parts) s.types
 
-  -- a run of the member that agrees with the store is told by an entry that has its locations and its answer
+  -- An entry with the run's locations and its answer records a run of the member that agrees with the store.
   tells : (entry : Entry) (inputs : List Val) (n : ℕ) (p : LocalState) → entry.number ≡ number → local Side.Unprotected first inputs n ≡ Some p
       → AgreesWith s.r.state.store p → entry.fresh ≡ p.fresh → entry.answer ≡ p.answer → TellsRun s.r entry Side.Unprotected n p
   tells entry inputs n p its ran agrees fresh answer = record {

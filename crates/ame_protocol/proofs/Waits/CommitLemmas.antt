@@ -85,7 +85,7 @@ module _ (parts : Parts) (s : Simulates parts) (a : AreWaiting parts) (seat : �
       commit-framed other seat (λ e. apart (sym e)) (heap_in parts) (heap_of memory) (release-cells parts.memory seat) others-stay
       (owned-reached parts.signature s.types (heap_in parts) seat (run_in parts seat number) s.r.state n p place its-runs.owes.given valid its-runs.scoped)
 
-  -- what is committed stays where nobody is woken
+  -- A value stays committed at each location whose watchers aren't woken.
   unwoken-stays : (ws : List ℕ) → All (λ l. has l ws ≡ false) ls → (l : ℕ) → Contains ws l → (heap_of memory).committed l ≡ (heap_in parts).committed l
   unwoken-stays ws none l watched = by (owned_or_not seat (cell_at (heap_in parts) l))
     where

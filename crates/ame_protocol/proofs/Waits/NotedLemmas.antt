@@ -50,7 +50,7 @@ use Rattle.ame_protocol.specs.Waits.Noted.{stuck_entry, has_noted}
 abbrev pub noted_attempt : Attempt → Attempt
 noted_attempt attempt = record attempt { logged = true }
 
--- Who stands at a false condition doesn't stand at `unprotected`
+-- A member at a false condition isn't at `unprotected`
 
 pub failing-calm : (f : Focus) → is_false_condition f ≡ true → at_unprotected f ≡ false
 failing-calm (Focus.AtValue v) e = refl

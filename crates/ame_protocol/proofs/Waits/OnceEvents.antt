@@ -1,4 +1,4 @@
--- Between two notes of one member somebody commits: what each event keeps of it.
+-- Each event keeps that some member commits between two notes of one member.
 use Rattle.std.proofs.Common.{◌≡◌, ℕ, ◌+◌, ◌⊎◌, inl, inr, Bool, true, false, List, [], ◌∷◌, ◌++◌, set, Option, Some, None, IsSome, IsTrue, append_assoc, refl, sym, ap, ◌∙◌, subst}
 use Rattle.std.specs.Prelude.{option_map, if◌then◌else◌}
 use Rattle.ame_term.specs.Tree.{Tree}

@@ -1,4 +1,4 @@
--- Between two notes of one member somebody commits.
+-- Between two notes of one member some member commits.
 use Rattle.std.proofs.Common.{◌≡◌, ℕ, ◌+◌, ◌≤◌, ◌⊎◌, inl, inr, true, false, List, [], ◌∷◌, ◌++◌, length, Option, Some, None, is_some, IsSome, slice_get, length-append, sym, ap, ◌∙◌, subst, arith}
 use Rattle.std.proofs.lemmas.Option.{slice_get_within}
 use Rattle.ame_term.specs.Tree.{Tree}

@@ -1,10 +1,11 @@
--- What each engine keeps of rollbacks and tries.
+-- The bounds on rollbacks and attempts that each engine keeps.
 use Rattle.std.specs.Prelude.{ℕ, List}
 use Rattle.ame_protocol.specs.Engine.Parts.{Parts, task_at}
 use Rattle.ame_protocol.specs.Bounds.Rollbacks.{HasReason, AreRefusedRarely}
 use Rattle.ame_protocol.specs.Bounds.Tries.{AreTriesFew}
 
--- So many answers turned a member back. Each row that is undone has its reason, the answers are few, and so are the tries.
+-- This number of answers turned members back. Each row that is undone has its reason, the answers are few, and so are the attempts without
+-- an entry.
 pub record HasFewRollbacks (refused : ℕ) (parts : Parts) : Type 0 where
   pub reasons : (seat : ℕ) → HasReason parts (task_at parts.tasks seat)
   pub rare : AreRefusedRarely refused parts

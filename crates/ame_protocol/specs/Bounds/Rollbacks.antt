@@ -1,4 +1,4 @@
--- How often members were rolled back, and why rows are undone.
+-- The number of rollbacks of members, and why rows are undone.
 use Rattle.std.specs.Prelude.{◌≡◌, ℕ, ◌+◌, ◌*◌, ◌<◌, ◌≤◌, true, List, length, All, IsSomeAnd, option_map, unwrap_or}
 use Rattle.std.specs.List.{sum_by}
 use Rattle.ame_term.specs.Tree.{Tree}
@@ -28,20 +28,20 @@ module _ {M : Type 0} where
   abbrev pub IsWithinRollbacks : Roster M → Type 0
   IsWithinRollbacks pool = All (λ m. m.rollbacks ≤ max_rollbacks) pool.members
 
--- What is so where a row is undone, by the reason: its member may be rolled back once more; an entry tells of it; or a stop is kept.
+-- A row that is undone has its reason: its member may be rolled back once more, an entry was added for it, or a stop is kept.
 abbrev pub HasReason : Parts → Task → Type 0
 HasReason parts (Task.Undoing attempt Reason.RolledBack) = MayTurnBack attempt.tried.number parts.pool
 HasReason parts (Task.Undoing attempt Reason.Noted) = attempt.logged ≡ true
 HasReason parts (Task.Undoing attempt Reason.Stopped) = parts.stopped ≡ true
 HasReason parts _ = Unit {0}
 
--- one where a seat brings a member home that turned back, whose rollback isn't counted yet
+-- Returns one if a seat brings home a member that turned back and whose rollback isn't counted yet.
 abbrev pub turning_back : Task → ℕ
 turning_back (Task.Undoing attempt Reason.RolledBack) = 1
 turning_back _ = 0
 
--- So many answers turned a member back: no more than a member may be rolled back for each entry, than the members were rolled
--- back since their last entries, and than one for each seat that brings such a member home.
+-- This number of answers turned members back. It is at most the sum of three: the most rollbacks of a member for each entry, the rollbacks
+-- of the members since their last entries, and one for each seat that brings such a member home.
 abbrev pub AreRefusedRarely : ℕ → Parts → Type 0
 AreRefusedRarely refused parts =
     refused ≤ max_rollbacks * length parts.entries

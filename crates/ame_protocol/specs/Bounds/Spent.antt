@@ -1,4 +1,4 @@
--- What the turns of an engine were spent on.
+-- The events that used up the turns of an engine.
 use Rattle.std.specs.Prelude.{◌≡◌, ℕ, ◌+◌, ◌-◌, ◌*◌, ◌/◌, ◌≤◌, max, true, false, List, length, Some, if◌then◌else◌}
 use Rattle.std.specs.List.{sum_by}
 use Rattle.ame_term.specs.Tree.{Val}
@@ -27,8 +27,8 @@ paid slice entries tried = 3 * (paid_by_entries entries + paid_by_tries slice tr
 abbrev pub used_at : ℕ → Log Val → Attempt → ℕ
 used_at slice notes attempt = 1 + (length notes.inputs + attempt.tried.steps / slice)
 
--- the turns that a row at work may have used which no entry tells; an undone one, one more where it turned back, and one for
--- each entry that it has undone
+-- Returns the turns that a row at work may have used without an entry for them. A row that is undone may have used one more if it turned
+-- back, and one for each entry that it has undone.
 abbrev pub allowance : ℕ → Log Val → Task → ℕ
 allowance slice notes Task.Idle = 0
 allowance slice notes (Task.Running attempt) = if attempt.logged then 0 else used_at slice notes attempt
@@ -48,7 +48,7 @@ allowances parts = over_seats parts.limits.seats (λ seat. allowance parts.limit
 abbrev pub all_undos_left : Parts → ℕ
 all_undos_left parts = over_seats parts.limits.seats (λ seat. undos_left (row_at parts.memory.rows seat) (task_at parts.tasks seat))
 
--- What is so of a task while no stop is kept: an entry tells of it exactly where the row was noted.
+-- While no stop is kept, an entry was added for a task exactly if its row was noted.
 abbrev pub IsToldInTime : Task → Type 0
 IsToldInTime Task.Idle = Unit {0}
 IsToldInTime (Task.Running attempt) = attempt.logged ≡ false

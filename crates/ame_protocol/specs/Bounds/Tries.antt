@@ -1,4 +1,4 @@
--- How many tries of each member left no entry.
+-- The number of attempts of each member that left no entry.
 use Rattle.std.specs.Prelude.{◌≡◌, ℕ, ◌+◌, ◌*◌, ◌≤◌, ◌==◌, false, List, [], length, Some}
 use Rattle.std.specs.List.{count_by}
 use Rattle.ame_journal.specs.declared.entry.Entry.{Entry}
@@ -21,14 +21,14 @@ entries_of number entries = count_by (λ e. e.number == number) entries
 abbrev pub times : ℕ → List ℕ → ℕ
 times number numbers = count_by (λ n. n == number) numbers
 
--- one where a seat has a member at work
+-- Returns one if a seat has a member at work.
 abbrev pub at_work : Task → ℕ
 at_work Task.Idle = 0
 at_work _ = 1
 
--- A list of late members, whose rows were emptied by a stop. Each member has at most so many tries as it may be rolled back for
--- each of its entries, as it was rolled back since the last one, and one more if it is late. No member is late before a stop, and
--- none twice; none is at work, and there are no more of them than seats without work.
+-- The list has the late members, whose rows a stop emptied. The attempts of each member are at most its possible rollbacks for each of its
+-- entries, its rollbacks since the last entry, and one more if it is late. No member is late before a stop, and none is listed twice. No
+-- late member is at work, and there are at most as many of them as seats without work.
 pub record AreTriesFew (late : List ℕ) (parts : Parts) : Type 0 where
   pub few : (i : ℕ) → tries_of i parts.tried ≤ max_rollbacks * entries_of i parts.entries + (rollbacks_at i parts.pool + times i late)
   pub calm : parts.stopped ≡ false → late ≡ []
@@ -36,8 +36,8 @@ pub record AreTriesFew (late : List ℕ) (parts : Parts) : Type 0 where
   pub away : (seat i : ℕ) → member_of (task_at parts.tasks seat) ≡ Some i → times i late ≡ 0
   pub room : length late + over_seats parts.limits.seats (λ seat. at_work (task_at parts.tasks seat)) ≤ parts.limits.seats
 
--- Each member has at most so many tries as it may be rolled back, for each of its entries and once more; and at most one more
--- than that for each of the late members, of which there is at most one a seat.
+-- The attempts of each member are at most its possible rollbacks for each of its entries and once more. A late member may have one attempt
+-- more. There is at most one late member a seat.
 pub record HasFewTries (seats : ℕ) (entries : List Entry) (tried : List Tried) : Type 0 where
   pub late : List ℕ
   pub seats_enough : length late ≤ seats

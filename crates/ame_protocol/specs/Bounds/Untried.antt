@@ -3,7 +3,7 @@ use Rattle.std.specs.Prelude.{◌≡◌, ℕ, Bool, true, []}
 use Rattle.ame_protocol.specs.declared.types.Task.{Task}
 use Rattle.ame_protocol.specs.Engine.Parts.{Parts, task_at}
 
--- an entry tells of a row that is undone, and of each row at work once a stop is kept
+-- An entry was added for a row that is undone, and once a stop is kept for each row at work.
 abbrev pub IsToldOf : Bool → Task → Type 0
 IsToldOf stopped Task.Idle = Unit {0}
 IsToldOf stopped (Task.Running attempt) = stopped ≡ true → attempt.logged ≡ true

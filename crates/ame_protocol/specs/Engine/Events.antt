@@ -1,4 +1,4 @@
--- What each event of a seat makes of an engine.
+-- The parts of an engine after each event of a seat.
 use Rattle.std.specs.Prelude.{ℕ, ◌+◌, Bool, true, false, List, [], ◌∷◌, ◌++◌, None, length, replicate, slice_set, if◌then◌else◌}
 use Rattle.ame_term.specs.Signature.{Signature}
 use Rattle.ame_term.specs.Tree.{Val, Tree}
@@ -90,7 +90,7 @@ has_allocated seat sort ty v parts = one_turn (with_memory (allocated_by seat so
 abbrev pub checked_attempt : ℕ → Attempt → Parts → Attempt
 checked_attempt steps attempt parts = record attempt { tried = record attempt.tried { at = length (whole_journal parts); steps = steps } }
 
--- a check found the row valid, after so many steps of its run
+-- A check found the row valid, after this number of steps of its run.
 abbrev pub has_checked : ℕ → ℕ → Attempt → Parts → Parts
 has_checked seat steps attempt parts = one_turn (with_task seat (Task.Running (checked_attempt steps attempt parts)) parts)
 
@@ -116,7 +116,7 @@ brought_home Reason.RolledBack number pool = home number true pool
 brought_home Reason.Noted number pool = parked number pool
 brought_home Reason.Stopped number pool = home number false pool
 
--- the tries, with this one if no entry tells it
+-- Returns the attempts without an entry, with this one if it has none.
 abbrev pub with_try : Attempt → List Tried → List Tried
 with_try attempt tried = if attempt.logged then tried else tried ++ attempt.tried ∷ []
 

@@ -1,4 +1,4 @@
--- What each engine keeps.
+-- The simulation that each engine keeps.
 use Rattle.std.specs.Prelude.{◌≡◌, ℕ, ◌+◌, ◌*◌, ◌≤◌, All, MatchOption, Some, length}
 use Rattle.ame_term.specs.Tree.{Val}
 use Rattle.ame_term.specs.State.{State}
@@ -15,8 +15,7 @@ use Rattle.ame_protocol.specs.Engine.Parts.{Parts, heap_in, task_at, member_of}
 use Rattle.ame_protocol.specs.Engine.StandsFor.{StandsFor}
 use Rattle.ame_protocol.specs.Engine.Tasks.{IsSoundIn, MeetsTask}
 
--- All cells are typed, whoever owns them; the state is typed by what is live; and a live cell of unprotected code has no
--- owner.
+-- All cells are typed, with any owner. The state is typed by the live cells. A live cell of unprotected code has no owner.
 pub record IsTypedIn (parts : Parts) (types : StoreTyping) (s : State) : Type 0 where
   pub heap : IsTypedHeap parts.signature types (heap_in parts)
   pub now : IsTypedNow parts.signature types (heap_in parts) s

@@ -1,4 +1,4 @@
--- What an engine owes of each seat, by the seat's task.
+-- The obligations of an engine for each seat, by the seat's task.
 use Rattle.std.specs.Prelude.{◌≡◌, ℕ, ◌*◌, ◌≤◌, Bool, true, false, All, Some, if◌then◌else◌}
 use Rattle.ame_term.specs.Tree.{Tree}
 use Rattle.ame_pool.specs.declared.member.Member.{Member}

@@ -1,4 +1,4 @@
--- What each event makes of a state.
+-- The state after each event.
 use Rattle.std.specs.Prelude.{List, Option, Some}
 use Rattle.ame_protocol.specs.Engine.Parts.{Parts, task_at}
 use Rattle.ame_protocol.specs.Engine.Events.{has_begun, has_read, has_written, has_allocated, has_checked, has_turned_back}
@@ -6,7 +6,7 @@ use Rattle.ame_protocol.specs.Engine.Events.{has_ended, has_left, has_undone, ha
 use Rattle.ame_protocol.specs.Waits.Noted.{has_noted}
 use Rattle.ame_protocol.specs.Visits.Visit.{has_visited, has_been_refused}
 use Rattle.ame_protocol.specs.Visits.Stops.{has_been_cut, has_grown_tall}
-use Rattle.ame_protocol.specs.declared.certificate.Certificate.{Certificate}
+use Rattle.ame_journal.specs.declared.certificate.Certificate.{Certificate}
 use Rattle.ame_protocol.specs.declared.counters.Counters.{Counters}
 use Rattle.ame_protocol.specs.declared.stop.Stop.{Stop}
 use Rattle.ame_protocol.specs.Event.Causes.{certificates_for}
@@ -15,7 +15,7 @@ use Rattle.ame_protocol.specs.Event.Undoing.{reason_to_undo}
 use Rattle.ame_protocol.specs.Event.State.{State}
 use Rattle.ame_protocol.specs.Event.Event.{Event, Find, Reverse}
 
--- of the parts
+-- Returns the parts after an event.
 abbrev pub after_parts : Event → Parts → Parts
 after_parts (Event.Begin seat number) parts = has_begun seat number parts
 after_parts (Event.Read seat l) parts = has_read seat l parts
@@ -34,14 +34,14 @@ after_parts (Event.Cut seat attempt steps place) parts = has_been_cut seat attem
 after_parts (Event.Tall seat attempt steps place) parts = has_grown_tall seat attempt.tried.number steps place (task_at parts.tasks seat) parts
 after_parts (Event.Halt why) parts = has_stopped parts
 
--- the question that was asked, as a kind of event
+-- Returns the question that was asked, as a kind of event.
 abbrev pub counted_find : Find → Counted
 counted_find Find.Check = Counted.Check
 counted_find Find.Commit = Counted.Commit
 counted_find Find.Block = Counted.Block
 counted_find Find.Tall = Counted.Tall
 
--- of the counters: each event is one more of its kind, but a note of a row that is cut off and a halt are none
+-- Returns the counters after an event. Each event is one more of its kind, but a note of a row that is cut off and a halt are none.
 abbrev pub counted_by : Event → State → Counters
 counted_by (Event.Begin seat number) s = one_counted Counted.Begin s.counters
 counted_by (Event.Read seat l) s = one_counted Counted.Read s.counters
@@ -61,7 +61,7 @@ counted_by (Event.Cut seat attempt steps place) s = s.counters
 counted_by (Event.Tall seat attempt steps place) s = one_counted Counted.Tall s.counters
 counted_by (Event.Halt why) s = s.counters
 
--- of the stop: four events keep one
+-- Returns the stop after an event. Four events keep one.
 abbrev pub stop_after : Event → Option Stop → Option Stop
 stop_after (Event.Refuse seat attempt device) stop = Some (Stop.DeviceFault device)
 stop_after (Event.Cut seat attempt steps place) stop = Some Stop.Spent
@@ -69,11 +69,11 @@ stop_after (Event.Tall seat attempt steps place) stop = Some (Stop.Tall attempt.
 stop_after (Event.Halt why) stop = Some why
 stop_after _ stop = stop
 
--- of the certificates: they are told where all members are blocked
+-- Returns the certificates after an event. They are reported if all members are blocked.
 abbrev pub certificates_after : Event → State → List Certificate
 certificates_after (Event.Halt why) s = certificates_for (Some why) s.parts
 certificates_after _ s = s.certificates
 
--- of the state
+-- Returns the state after an event.
 abbrev pub after : Event → State → State
 after e s = record { parts = after_parts e s.parts; counters = counted_by e s; stop = stop_after e s.stop; certificates = certificates_after e s }

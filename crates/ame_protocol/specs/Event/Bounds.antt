@@ -1,4 +1,4 @@
--- Bounds that each engine keeps, and what they tell at its end.
+-- Bounds that each engine keeps, and their consequences at its end.
 use Rattle.std.specs.Prelude.{◌≡◌, ℕ, ◌+◌, ◌*◌, ◌≤◌, List, [], ◌++◌, true, length, All, Option, Some, None}
 use Rattle.ame_term.specs.Tree.{Tree}
 use Rattle.ame_journal.specs.declared.entry.Entry.{Entry}
@@ -16,16 +16,16 @@ use Rattle.ame_protocol.specs.Bounds.Untried.{IsUntried}
 use Rattle.ame_protocol.specs.declared.counters.Counters.{Counters}
 use Rattle.ame_protocol.specs.declared.stop.Stop.{Stop}
 
--- the answers that turned a member back: another seat owned a cell, or a read wasn't valid
+-- Returns the number of answers that turned a member back: another seat owned a cell, or a read wasn't valid.
 abbrev pub refusals : Counters → ℕ
 refusals counters = counters.conflicts + counters.invalids
 
--- the turns are paid, unless a device failed
+-- The turns are paid, unless a device failed.
 abbrev pub ArePaid : Option Stop → Parts → Type 0
 ArePaid (Some (Stop.DeviceFault device)) parts = Unit {0}
 ArePaid _ parts = HasPaidTurns parts
 
--- there is no try while no stop is kept, and where the turns are used up
+-- There is no attempt without an entry while no stop is kept, nor if the turns are used up.
 abbrev pub IsUntriedUntil : Option Stop → Parts → Type 0
 IsUntriedUntil None parts = IsUntried parts
 IsUntriedUntil (Some Stop.Spent) parts = IsUntried parts
@@ -37,16 +37,17 @@ pub record KeepsBounds (stop : Option Stop) (counters : Counters) (parts : Parts
   pub paid : ArePaid stop parts
   pub untried : parts.limits.seats ≡ 1 → IsUntriedUntil stop parts
 
--- What is so where a stop is kept, so that no try follows: with one seat, where the turns are used up, an entry tells of what is at work.
+-- If this stop is kept, no attempt is left without an entry: with one seat and the turns used up, an entry was added for each attempt at
+-- work.
 abbrev pub LeavesNoTry : Stop → Parts → Type 0
 LeavesNoTry Stop.Spent parts =
     parts.limits.seats ≡ 1 → (seat : ℕ) (attempt : Attempt) → attempt_of (task_at parts.tasks seat) ≡ Some attempt → attempt.logged ≡ true
 LeavesNoTry _ parts = Unit {0}
 
--- What this tells of a base, of the entries that were added to it, and of the tries that left none, which lead to a state: the answers
--- that turned a member back are at most eight for each member that there ever was and for each entry; each member has few tries,
--- and each of them was legal steps of a member from where the journal was; where the turns are used up, entries and tries pay for
--- them, and with one seat there is no try then.
+-- The bounds for a base, the entries that were added to it, and the attempts that left none, which lead to a state. The answers that turned
+-- members back are at most eight for each member that there ever was and for each entry. Each member has few attempts without an entry, and
+-- each of them was legal steps of a member from the state of the journal then. If the turns are used up, entries and attempts pay for them,
+-- and with one seat there is no such attempt.
 pub record HasBounds (program : Tree) (limits : Limits) (r : Replayed) (base entries : List Entry) (turns : ℕ) (counters : Counters)
     (tried : List Tried) (stop : Option Stop) : Type 0 where
   pub rollbacks : refusals counters ≤ max_rollbacks * (r.state.next + length entries)

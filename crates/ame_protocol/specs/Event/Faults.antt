@@ -1,4 +1,4 @@
--- What the fault of a device tells of the state that is left.
+-- The state that is left when a device fails.
 use Rattle.std.specs.Prelude.{◌≡◌, ℕ, ℤ, true, Some, replicate}
 use Rattle.ame_term.specs.Tree.{Tree}
 use Rattle.ame_term.specs.Frame.{Side}
@@ -12,8 +12,8 @@ use Rattle.ame_journal.specs.Replay.{replay}
 use Rattle.ame_journal.specs.Labels.{free_labels}
 use Rattle.ame_protocol.specs.Engine.Parts.{Parts, whole_journal}
 
--- A member that is inside can make so many steps under `unprotected`, each of which its term alone determines, and stands then
--- at a call of this device.
+-- A member that is inside can make this number of steps under `unprotected`. Its term alone determines each of them. Then it is at a call
+-- of this device.
 pub record ComesToCall (r : Replayed) (device : ℕ) : Type 0 where
   pub number : ℕ
   pub inside : is_inside r number ≡ true
@@ -27,6 +27,6 @@ pub record ComesToCall (r : Replayed) (device : ℕ) : Type 0 where
   pub argument : ℤ
   pub calls : act_of redex ≡ Act.Calls device argument
 
--- so it is in the state to which a journal leads
+-- A member comes to a call of this device in the state to which a journal leads.
 abbrev pub LeadsToCall : Parts → ℕ → Type 0
 LeadsToCall parts device = (r : Replayed) → replay parts.program (whole_journal parts) ≡ Some r → ComesToCall r device

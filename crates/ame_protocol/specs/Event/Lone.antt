@@ -7,7 +7,7 @@ use Rattle.ame_protocol.specs.declared.types.Task.{Task}
 use Rattle.ame_protocol.specs.Engine.Parts.{Parts, heap_in, task_at}
 use Rattle.ame_protocol.specs.declared.counters.Counters.{Counters}
 
--- no write met a cell of another seat, and no read was found that isn't valid
+-- No write met a cell of another seat, and no read was found that isn't valid.
 pub record IsUndisturbed (counters : Counters) : Type 0 where
   pub conflicts : counters.conflicts ≡ 0
   pub invalids : counters.invalids ≡ 0

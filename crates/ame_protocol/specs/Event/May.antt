@@ -22,13 +22,13 @@ use Rattle.ame_protocol.specs.Visits.Visit.{IsVisit}
 use Rattle.ame_protocol.specs.Visits.Stops.{MayBeNoted}
 use Rattle.ame_protocol.specs.declared.stop.Stop.{Stop}
 use Rattle.ame_protocol.specs.Event.Bounds.{LeavesNoTry}
-use Rattle.ame_protocol.specs.Event.Causes.{IsCause}
+use Rattle.ame_protocol.specs.Event.Causes.{IsCause, only_seats_keep}
 use Rattle.ame_protocol.specs.Event.Faults.{LeadsToCall}
 use Rattle.ame_protocol.specs.Event.Undoing.{is_undoing}
 use Rattle.ame_protocol.specs.Event.State.{State, cell}
 use Rattle.ame_protocol.specs.Event.Event.{Event, Reverse}
 
--- no stop is kept, and a turn is left
+-- No stop is kept, and a turn is left.
 pub record HasATurn (s : State) : Type 0 where
   pub going : s.stop ≡ None
   pub left : s.parts.turns < s.parts.limits.turns
@@ -49,17 +49,17 @@ pub record ComesToAct (s : State) (seat : ℕ) (act : Act) : Type 0 where
   pub comes : ComesTo (run_in s.parts seat attempt.tried.number) act steps place
   pub early : steps < attempt.tried.steps + s.parts.limits.slice
 
--- Check, end, leave, note: protected code of the seat has come to this place, where it has used all that it was given.
+-- Check, end, leave, note: protected code of the seat has come to this place, and has used all that it was given.
 pub record HasRunTo (s : State) (seat : ℕ) (attempt : Attempt) (steps : ℕ) (place : LocalState) : Type 0 where
   pub task : task_at s.parts.tasks seat ≡ Task.Running attempt
   pub used : HasUsed (run_in s.parts seat attempt.tried.number) steps place
   pub more : attempt.tried.steps ≤ steps
 
--- each read that the seat has logged is valid: the cell is there for all, and has its number still, or the seat itself took it then
+-- Each read that the seat has logged is valid. The cell is there for all, and still has its number, or the seat itself took it then.
 abbrev pub ReadsAreValid : State → ℕ → Type 0
 ReadsAreValid s seat = AreValid (heap_in s.parts) seat (row_at s.parts.memory.rows seat).reads
 
--- whoever watches a cell that the seat owns is woken by its commit
+-- The commit wakes each member that watches a cell of the seat.
 abbrev pub WakesWatchers : State → ℕ → List ℕ → Type 0
 WakesWatchers s seat woken = (l : ℕ) → IsOwnedBy seat (cell s l) → Contains woken l
 
@@ -86,15 +86,15 @@ pub record MayNote (s : State) (seat : ℕ) (attempt : Attempt) (side : Side) (s
   pub may : MayBeNoted s.parts seat (task_at s.parts.tasks seat) side attempt.tried.number steps place
   pub more : attempt.tried.steps ≤ steps
 
--- Halt: no stop is kept, and this one has its cause. It isn't that of a value that is too high, which an entry tells; and with one
--- seat, where the turns are used up, no try follows.
+-- Halt: no stop is kept, and this one has its cause. It isn't a stop that only an event of a seat keeps. With one seat no attempt is
+-- left without an entry if the turns are used up.
 pub record MayHalt (s : State) (why : Stop) : Type 0 where
   pub none : s.stop ≡ None
   pub cause : IsCause (Some why) s.parts
-  pub apart : (number : ℕ) → why ≡ Stop.Tall number → ⊥
+  pub apart : only_seats_keep why ≡ false
   pub leaves : LeavesNoTry why s.parts
 
--- when an event may be
+-- An event may happen in a state.
 abbrev pub May : Event → State → Type 0
 May (Event.Begin seat number) s = HasATurn s × MayBegin s seat number
 May (Event.Read seat l) s = HasATurn s × ComesToAct s seat (Act.Reads l.0) × HasItsParity (cell s l.0)

@@ -11,12 +11,12 @@ use Rattle.ame_protocol.specs.Event.Event.{Event}
 use Rattle.ame_protocol.specs.Event.After.{after}
 use Rattle.ame_protocol.specs.Event.May.{May}
 
--- a run of events leads from one state to another: each may be where it is
+-- A run of events leads from one state to another, and each event may happen in the state to which the earlier ones lead.
 abbrev pub Follows : State → List Event → State → Type 0
 Follows s [] end = end ≡ s
 Follows s (e ∷ es) end = May e s × Follows (after e s) es end
 
--- the entry that an event adds to the journal, if it adds one
+-- Returns the entry that an event adds to the journal, if any.
 abbrev pub entries_told : Event → List Entry
 entries_told (Event.End seat attempt steps place woken) = ran_entry seat attempt.tried.number steps place ∷ []
 entries_told (Event.Leave seat attempt steps place woken) = ran_entry seat attempt.tried.number steps place ∷ []
@@ -26,12 +26,12 @@ entries_told (Event.Cut seat attempt steps place) = note_entry EntryKind.Cut sea
 entries_told (Event.Tall seat attempt steps place) = note_entry EntryKind.Tall seat attempt.tried.number steps place ∷ []
 entries_told _ = []
 
--- those of a run, in order
+-- Returns the entries of a run, in order.
 abbrev pub entries_along : List Event → List Entry
 entries_along [] = []
 entries_along (e ∷ es) = entries_told e ++ entries_along es
 
--- whether a seat turns back
+-- Returns whether a seat turns back.
 abbrev pub is_back : Event → Bool
 is_back (Event.TurnBack seat attempt why) = true
 is_back _ = false

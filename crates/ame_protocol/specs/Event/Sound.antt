@@ -1,4 +1,4 @@
--- What each event keeps.
+-- The facts that each event keeps.
 use Rattle.std.specs.Prelude.{◌≡◌, is_some}
 use Rattle.ame_protocol.specs.Engine.Simulates.{Simulates}
 use Rattle.ame_protocol.specs.Engine.Alone.{RunsExclusively}
@@ -12,10 +12,11 @@ use Rattle.ame_protocol.specs.Event.Rollbacks.{IsGoodPool}
 use Rattle.ame_protocol.specs.Event.State.{State}
 use Rattle.ame_protocol.specs.Event.Seated.{AreSeated}
 
--- The parts tell whether a stop is kept, and stand for the state of the strong semantics to which the journal leads. No member was
--- rolled back more often than it may be, and one that was so as often runs alone. With one seat nothing is met that another seat
--- did. Rollbacks and tries are few, and the turns are paid. Who waits has a note that tells so, and none is noted twice without a
--- commit between. A kept stop has its cause. Each turn is counted by its kind. Each busy member is at work on a seat.
+-- The parts record whether a stop is kept, and stand for the state of the strong semantics to which the journal leads. No member was rolled
+-- back more often than it may be, and a member that was rolled back that often runs alone. With one seat nothing is met that another seat
+-- did. Rollbacks and attempts without an entry are few, and the turns are paid. Each waiting member has a note of its false condition, and
+-- none is noted twice without a commit between. A kept stop has its cause. Each turn is counted by its kind. Each busy member is at work on
+-- a seat.
 pub record Sound (s : State) : Type 0 where
   pub stopped : s.parts.stopped ≡ is_some s.stop
   pub stands : Simulates s.parts

@@ -1,4 +1,4 @@
--- How the row of a seat is undone.
+-- The ways in which the row of a seat is undone.
 use Rattle.std.specs.Prelude.{ℕ, Bool, true, false}
 use Rattle.ame_pool.specs.declared.member.Member.{Member}
 use Rattle.ame_pool.specs.Roster.{Roster}
@@ -6,24 +6,24 @@ use Rattle.ame_pool.specs.Calls.{is_running, is_noted, home, parked}
 use Rattle.ame_protocol.specs.declared.types.Reason.{Reason}
 use Rattle.ame_protocol.specs.declared.types.Task.{Task}
 
--- whether a seat undoes a row
+-- Returns whether a seat undoes a row.
 abbrev pub is_undoing : Task → Bool
 is_undoing (Task.Undoing attempt reason) = true
 is_undoing _ = false
 
--- why what a seat has at work is undone: the reason for which it turned back or is noted, else that a stop is kept
+-- Returns why the work of a seat is undone: the reason for which it turned back or is noted, or otherwise that a stop is kept.
 abbrev pub reason_to_undo : Task → Reason
 reason_to_undo (Task.Undoing attempt reason) = reason
 reason_to_undo _ = Reason.Stopped
 
 module _ {M : Type 0} where
-  -- whether a member is busy as one that goes home for this reason
+  -- Returns whether a member is busy and goes home for this reason.
   abbrev pub is_busy_for : Reason → Member M → Bool
   is_busy_for Reason.RolledBack = is_running
   is_busy_for Reason.Noted = is_noted
   is_busy_for Reason.Stopped = is_running
 
-  -- the member has gone home for this reason
+  -- Returns the pool after the member has gone home for this reason.
   abbrev pub home_for : Reason → ℕ → Roster M → Roster M
   home_for Reason.RolledBack number pool = home number true pool
   home_for Reason.Noted number pool = parked number pool

@@ -1,4 +1,4 @@
--- What stands after a commit.
+-- The facts that hold after a commit.
 use Rattle.std.specs.Prelude.{◌≡◌, ℕ}
 use Rattle.ame_term.specs.State.{State}
 use Rattle.ame_laws.specs.Orderly.{NumbersRise}

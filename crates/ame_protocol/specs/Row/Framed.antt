@@ -1,12 +1,12 @@
--- What the others may do, for a seat.
+-- The changes that the other seats may make, seen from one seat.
 use Rattle.std.specs.Prelude.{◌≡◌, ℕ, ◌<◌, ◌≤◌, ◌⊎◌, length, MatchOption}
 use Rattle.ame_term.specs.Tree.{Val}
 use Rattle.ame_store.specs.declared.cell.Cell.{Cell}
 use Rattle.ame_store.specs.Cells.{IsOwnedBy}
 use Rattle.ame_protocol.specs.Row.Heap.{Heap, cell_at, IsCell, IsLive}
 
--- Others changed a cell. The seat owns it neither before nor after. Its number grew, unless one of them owns
--- it still. What was live is live, and what wasn't may be live only where a seat had just made it.
+-- Others changed a cell. The seat owns it neither before nor after. Its number grew, unless one of them still owns it. A live cell stays
+-- live. A cell that wasn't live may be live now only if a seat had just made it.
 pub record IsChangedByOthers (seat : ℕ) (old new : Cell Val) : Type 0 where
   pub before : IsOwnedBy seat old → ⊥
   pub after : IsOwnedBy seat new → ⊥

@@ -1,4 +1,4 @@
--- What unprotected code meets, which runs on what is committed.
+-- The cells that unprotected code meets. It runs on committed values only.
 use Rattle.std.specs.Prelude.{◌≡◌, ℕ}
 use Rattle.ame_term.specs.declared.types.Sort.{Sort}
 use Rattle.ame_protocol.specs.Row.Heap.{Heap, cell_at, IsCell, IsLive}

@@ -1,4 +1,4 @@
--- What a seat's run was given, by the cells as they are now.
+-- The values that a seat's run was given, compared with the cells as they are now.
 use Rattle.std.specs.Prelude.{◌≡◌, ℕ, List, Option, Some, None, Contains}
 use Rattle.std.specs.List.{AllByRecursion}
 use Rattle.ame_term.specs.Tree.{Val}
@@ -10,14 +10,14 @@ use Rattle.ame_machine.specs.Run.Local.{LocalState}
 use Rattle.ame_protocol.specs.Row.Heap.{Heap, cell_at}
 use Rattle.ame_protocol.specs.Row.SeatRun.{SeatRun, HasUsed, IsValidNote}
 
--- what a run set last, if it set anything, is what the seat holds in place in this cell; else it doesn't own the cell
+-- If a run set a value last, the seat holds that value in place in this cell. Otherwise the seat doesn't own the cell.
 abbrev pub IsHeld : ℕ → Cell Val → Option Val → Type 0
 IsHeld seat cell None = IsOwnedBy seat cell → ⊥
 IsHeld seat cell (Some v) = IsOwnedBy seat cell × (cell.value ≡ v)
 
 module _ (heap : Heap) (seat : ℕ) where
-  -- A value that was taken at a location is logged with some number. Where that read is valid, the value is
-  -- the committed one. A read that isn't valid owes nothing.
+  -- A value that was taken at a location is logged with some number. If that read is valid, the value is the committed one. A read that
+  -- isn't valid owes nothing.
   pub record IsLogged (reads : List ReadNote) (taken : ℕ × Val) : Type 0 where
     pub note : ReadNote
     pub logged : Contains reads note

@@ -11,7 +11,7 @@ pub record Heap : Type 0 where
   pub cells : List (Cell Val)
   pub committed : ℕ → Option Val
 
--- what stands for a cell where there is none: no seat owns it, and it isn't live
+-- Returns the cell that a location without a cell counts as: no seat owns it, and it isn't live.
 abbrev pub no_cell : Cell Val
 no_cell = record { sort = Sort.Protected; ty = record { 0 = 0 }; value = Val.Unit; number = 0; owner = None; live = false }
 
@@ -27,7 +27,7 @@ IsCell heap l = l < length heap.cells
 abbrev pub IsLive : Cell Val → Type 0
 IsLive cell = cell.live ≡ true
 
--- Where no live cell is, nothing is committed; what is in place in a live cell without an owner is committed.
+-- If no live cell is at a location, nothing is committed there. The value in place in a live cell without an owner is committed.
 pub record IsCommitted (heap : Heap) : Type 0 where
   pub dead : (l : ℕ) → IsDead (cell_at heap l) → heap.committed l ≡ None
   pub free : (l : ℕ) → IsLive (cell_at heap l) → IsFree (cell_at heap l) → heap.committed l ≡ Some (cell_at heap l).value

@@ -1,4 +1,4 @@
--- What a seat's row owes.
+-- The obligations of a seat's row.
 use Rattle.std.specs.Prelude.{◌≡◌, ℕ, ◌≤◌, All}
 use Rattle.ame_term.specs.declared.types.Sort.{Sort}
 use Rattle.ame_rows.specs.declared.notes.ReadNote.{ReadNote}

@@ -1,4 +1,4 @@
--- What a seat's row tells of the run of its member.
+-- The run of a seat's member, as the seat's row logs it.
 use Rattle.std.specs.Prelude.{◌≡◌, ℕ, List, [], Some, All}
 use Rattle.ame_term.specs.Tree.{Val, Tree}
 use Rattle.ame_term.specs.Frame.{Side}
@@ -10,7 +10,8 @@ use Rattle.ame_rows.specs.Valid.{IsValidAt}
 use Rattle.ame_machine.specs.Run.Local.{LocalState, local}
 use Rattle.ame_protocol.specs.Row.Heap.{Heap, cell_at}
 
--- where the run began and what it was given; the reads that it made outside, and what is to be undone
+-- A run of a seat has the term from which it began, the values that it was given, the reads that it made outside its own cells, and the
+-- entries that are to be undone.
 pub record SeatRun : Type 0 where
   pub start : Tree
   pub inputs : List Val
@@ -34,7 +35,7 @@ pub record StandsAt (side : Side) (act : Act) (p : LocalState) : Type 0 where
   pub stands : focus p.term ≡ Focus.AtRedex side redex
   pub acts : act_of redex ≡ act
 
--- where the run has used all that it was given, it has come to an act
+-- The run has used all that it was given, and has come to an act.
 pub record ComesTo (run : SeatRun) (act : Act) (n : ℕ) (p : LocalState) : Type 0 where
   pub place : HasUsed run n p
   pub there : StandsAt Side.Protected act p

@@ -1,4 +1,4 @@
--- Typing by the types of all cells, live or not, whoever owns them: what no read can break, be it valid or not.
+-- Typing by the types of all cells, live or not, with any owner. No read can break it, valid or not.
 use Rattle.std.specs.Prelude.{◌≡◌, ◌==◌, ℕ, Some, All, if◌then◌else◌}
 use Rattle.ame_term.specs.Tree.{Typ, Val}
 use Rattle.ame_term.specs.Signature.{Signature, MayStore}

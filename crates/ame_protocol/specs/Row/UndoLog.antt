@@ -1,4 +1,4 @@
--- What is to be undone.
+-- The undo log of a seat.
 use Rattle.std.specs.Prelude.{◌≡◌, ℕ, ◌+◌, List, map, Some, All, Contains, nat_eq}
 use Rattle.std.specs.List.{IsDistinct}
 use Rattle.ame_term.specs.Tree.{Val}
@@ -13,8 +13,8 @@ undo_place (Wrote l number old) = l.0
 undo_place (Made l) = l.0
 
 module _ (heap : Heap) (seat : ℕ) where
-  -- The seat took a cell that had the number and the value of the entry, which is the committed one where the
-  -- cell is live; or it made a cell, which isn't live.
+  -- The seat took a cell that had the number and the value of the entry. If the cell is live, that value is the committed one. Or the seat
+  -- made a cell, which isn't live.
   abbrev pub IsUndo : Undo Val → Type 0
   IsUndo (Wrote l number old) =
       IsOwnedBy seat (cell_at heap l.0) × ((cell_at heap l.0).number ≡ number + 1) × (IsLive (cell_at heap l.0) → heap.committed l.0 ≡ Some old)

@@ -1,4 +1,4 @@
--- What an act of unprotected code is given by a shared memory, and what it makes of the memory.
+-- The value that an act of unprotected code is given by a shared memory, and the memory after the act.
 use Rattle.std.specs.Prelude.{◌≡◌, Some, length}
 use Rattle.ame_term.specs.Tree.{Val}
 use Rattle.ame_term.specs.Act.{Act}
@@ -6,8 +6,8 @@ use Rattle.ame_rows.specs.MemoryView.{MemoryView}
 use Rattle.ame_rows.specs.Committed.{committed}
 use Rattle.ame_rows.specs.Access.{put_at, born}
 
--- The value with which an act goes on: what is committed at a location, or the location of a new cell. Every other act is told
--- the answer of a device, or the unit.
+-- The value with which an act goes on is the committed value of a location, or the location of a new cell. Every other act is given the
+-- answer of a device, or the unit.
 abbrev pub IsGivenBy : MemoryView Val → Act → Val → Type 0
 IsGivenBy memory (Act.Reads l) v = committed memory l ≡ Some v
 IsGivenBy memory (Act.Peeks l) v = committed memory l ≡ Some v

@@ -43,7 +43,7 @@ opened program signature limits base cells pool output next = record {
 abbrev pub cell_of : List (Cell Val) → ℕ → Cell Val
 cell_of cells l = slice_index_or cells l no_cell
 
--- what a store has where a cell is: the value of a live one
+-- Returns the value that a store has for a cell: the value of a live cell.
 abbrev pub stored_in : Cell Val → Option Val
 stored_in cell = if cell.live then Some cell.value else None
 

@@ -1,4 +1,4 @@
--- What an engine notes of a row that is at work when it stops.
+-- The notes of rows that are at work when an engine stops.
 use Rattle.std.specs.Prelude.{ℕ, true, [], ◌∷◌, ◌++◌, None}
 use Rattle.ame_term.specs.Frame.{Side}
 use Rattle.ame_journal.specs.declared.entry.Entry.{Entry}
@@ -11,8 +11,8 @@ use Rattle.ame_protocol.specs.Engine.Parts.{Parts, heap_in, run_in}
 use Rattle.ame_protocol.specs.Engine.Events.{one_turn, with_task, has_stopped}
 use Rattle.ame_protocol.specs.Visits.Visit.{StepsTo}
 
--- Where the row of a seat at work may be noted, by its task, with the side on which it runs and its member: protected code
--- has used all that it was given, and its reads are valid; unprotected code has made steps alone.
+-- The row of a seat at work may be noted at this place, by its task, on the side on which it runs, for its member. Protected code has used
+-- all that it was given, and its reads are valid. Unprotected code has made only steps.
 pub data MayBeNoted (parts : Parts) (seat : ℕ) : Task → Side → ℕ → ℕ → LocalState → Type 0 where
   running : (attempt : Attempt) (n : ℕ) (p : LocalState) → HasUsed (run_in parts seat attempt.tried.number) n p
       → AreValid (heap_in parts) seat (run_in parts seat attempt.tried.number).reads

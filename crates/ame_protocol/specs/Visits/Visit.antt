@@ -24,12 +24,12 @@ closed_at v p = record p { term = fill p.term (Tree.Held v) }
 abbrev pub answered_at : ℤ → LocalState → LocalState
 answered_at answer p = refilled_in p.term (Tree.Held (Val.Int answer), record p { answer = Some answer })
 
--- so many steps alone of a member, from the term that the pool has of it, lead to a place
+-- This number of steps of a member, from the term that the pool has of it, leads to a place.
 abbrev pub StepsTo : Parts → ℕ → ℕ → LocalState → Type 0
 StepsTo parts number n p = local Side.Unprotected (term_at parts.pool number) [] n ≡ Some p
 
--- What a visit comes to: a number of steps, a place of the member's run, whether the member is inside still, and a shared memory. It
--- makes steps alone; and then one act with the value that it is given, or the step by which it closes, or neither.
+-- A visit comes to a number of steps, a place of the member's run, whether the member is still inside, and a shared memory. It makes steps,
+-- and then one act with the value that it is given, or the step by which it closes, or neither.
 pub data IsVisit (parts : Parts) (number : ℕ) : ℕ → LocalState → Bool → MemoryView Val → Type 0 where
   stepped : (n : ℕ) (p : LocalState) → 0 < n → StepsTo parts number n p → IsVisit parts number n p true parts.memory
   acted : (n : ℕ) (p : LocalState) (act : Act) (v : Val) (made : Tree × LocalState) → StepsTo parts number n p

@@ -7,8 +7,8 @@ use Rattle.ame_journal.specs.Replayed.{is_failing}
 use Rattle.ame_journal.specs.Labels.{AreSteps, fragment_labels}
 use Rattle.ame_protocol.specs.Waits.Waiting.{last_stuck}
 
--- In a state a member can become active and make so many steps, with exactly these new locations, and then stands at a
--- condition that is false.
+-- In a state a member can become active and make this number of steps, with exactly these new locations. Then it is at a condition that is
+-- false.
 pub record IsCertificate (s : State) (number steps : ℕ) (fresh : List ℕ) : Type 0 where
   pub kinds : List StepKind
   pub are : AreSteps kinds steps fresh None

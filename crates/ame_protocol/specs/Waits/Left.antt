@@ -1,4 +1,4 @@
--- What an event of a seat leaves to members that wait.
+-- The waiting members after an event of a seat.
 use Rattle.std.specs.Prelude.{◌≡◌, ℕ, List, Contains, Some}
 use Rattle.ame_pool.specs.Calls.{machine_of}
 use Rattle.ame_protocol.specs.Row.Framed.{IsFramed}

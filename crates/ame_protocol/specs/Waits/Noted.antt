@@ -12,12 +12,12 @@ use Rattle.ame_protocol.specs.declared.types.Task.{Task}
 use Rattle.ame_protocol.specs.Engine.Parts.{Parts}
 use Rattle.ame_protocol.specs.Engine.Events.{one_turn, with_task}
 
--- the note of a row that has come to such a condition after so many steps
+-- Returns the note of a row that came to such a condition after these steps.
 abbrev pub stuck_entry : ℕ → ℕ → ℕ → LocalState → Entry
 stuck_entry seat number steps p =
     record { kind = EntryKind.Stuck; seat = seat; number = number; steps = steps; fresh = p.fresh; answer = None }
 
--- The note joins the journal and tells the attempt, the member watches the locations that its row read, and the row is to be undone.
+-- The note joins the journal as the attempt's entry, the member watches the locations that its row read, and the row is to be undone.
 abbrev pub has_noted : ℕ → Attempt → ℕ → LocalState → Parts → Parts
 has_noted seat attempt steps p parts =
     one_turn (with_task seat (Task.Undoing (record attempt { logged = true }) Reason.Noted) (record parts {

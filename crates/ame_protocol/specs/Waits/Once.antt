@@ -1,4 +1,4 @@
--- Between two notes of one member, each of which tells that it came to a condition that is false, somebody commits.
+-- Between two notes that one member came to a false condition, some member commits.
 use Rattle.std.specs.Prelude.{◌≡◌, ℕ, ◌<◌, ◌⊎◌, List, length, Some, IsSome, slice_get}
 use Rattle.ame_journal.specs.declared.entry.Entry.{Entry}
 use Rattle.ame_journal.specs.declared.entry.EntryKind.{EntryKind}
@@ -24,7 +24,7 @@ IsNotedOnce journal =
     (first later : ℕ) (note next : Entry) → first < later → HasEntryAt journal EntryKind.Stuck first note
     → HasEntryAt journal EntryKind.Stuck later next → note.number ≡ next.number → HasRanBetween journal first later
 
--- A note behind which nobody has committed belongs to a member that waits. So no member is noted twice without a commit.
+-- A note that no commit follows belongs to a member that still waits. So no member is noted twice without a commit between.
 pub record AreNotedOnce (parts : Parts) : Type 0 where
   pub recent : (place : ℕ) (note : Entry) → HasEntryAt (whole_journal parts) EntryKind.Stuck place note
       → HasRanBetween (whole_journal parts) place (length (whole_journal parts)) ⊎ IsSome (watched_by note.number parts.pool)

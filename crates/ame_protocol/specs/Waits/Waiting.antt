@@ -43,8 +43,8 @@ last_stuck number (entry ∷ entries) =
 abbrev pub MayHave : List Task → ℕ → ℕ → Type 0
 MayHave tasks seat number = (other : ℕ) → member_of (task_at tasks other) ≡ Some number → other ≡ seat
 
--- A member's last note tells a run, from the member's term, that failed at a condition with the note's steps and fresh
--- locations. It waits for the watched locations still, by the seat that has it, or by any seat where none has.
+-- A member's last note records a run from the member's term that failed at a condition, with the note's steps and fresh locations. The run
+-- still waits for the watched locations, seen from the seat that has the member, or from any seat if no seat has it.
 pub record HasFailed (parts : Parts) (number : ℕ) (watched : List ℕ) : Type 0 where
   pub note : Entry
   pub last : last_stuck number (whole_journal parts) ≡ Some note

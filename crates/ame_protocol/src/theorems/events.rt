@@ -1,4 +1,4 @@
-//! What events and their runs keep.
+//! Facts that events and their runs keep.
 
 ghost use Rattle.ame_term.specs.Signature.{Signature};
 ghost use Rattle.std.specs.Prelude.{◌≡◌, ◌≤◌, ◌+◌, ◌*◌, ◌++◌, ◌∷◌, [], ℕ, true, List, All, count_by, length, None};
@@ -18,33 +18,34 @@ ghost use Rattle.ame_protocol.specs.Bounds.Rollbacks.{rollbacks_at, MayTurnBack}
 ghost use Rattle.ame_protocol.specs.declared.types.Attempt.{Attempt};
 ghost use Rattle.ame_pool.specs.Standings.{max_rollbacks};
 
-/// The state that starts a program which the types accept is sound.
+/// Says that the state that starts a program is sound, if the types accept the program.
 pub fn states_start_sound()
     ensures { (program : Tree) (signature : Signature) (limits : Limits) → IsAccepted signature program
         → 1 ≤ limits.slice → Sound (started_state program signature limits) }
 {}
 
-/// Each event that may be keeps a state sound.
+/// Says that each event that may happen keeps a state sound.
 pub fn events_keep_states_sound()
     ensures { (e : Event) (s : State) → May e s → Sound s → Sound (after e s) }
 {}
 
-/// So does each run.
+/// Says that each run keeps a state sound.
 pub fn runs_keep_states_sound()
     ensures { (es : List Event) (s end : State) → Follows s es end → Sound s → Sound end }
 {}
 
-/// A run goes on with each event that may be where it has come.
+/// Says that a run can be continued by each event that may happen in the state to which it has come.
 pub fn runs_go_on()
     ensures { (es : List Event) (s end : State) (e : Event) → Follows s es end → May e end → Follows s (es ++ e ∷ []) (after e end) }
 {}
 
-/// The journal grows by the entries of the run's events, in order.
+/// Says that the journal grows by the entries of the run's events, in order.
 pub fn runs_tell_their_entries()
     ensures { (es : List Event) (s end : State) → Follows s es end → end.parts.entries ≡ s.parts.entries ++ entries_along es }
 {}
 
-/// No event takes more than one turn, and until a stop is kept each takes one. The counters of all kinds together are the turns.
+/// Says that no event takes more than one turn, and that each takes one until a stop is kept. The counters of all kinds add up to the
+/// turns.
 pub fn runs_take_turns()
     ensures few { (es : List Event) (s end : State) → Follows s es end → end.parts.turns ≤ s.parts.turns + length es }
     ensures going { (es : List Event) (s end : State) → Follows s es end → Sound s → end.stop ≡ None
@@ -52,21 +53,21 @@ pub fn runs_take_turns()
     ensures counted { (s : State) → Sound s → turns_in s.counters ≡ s.parts.turns }
 {}
 
-/// A member that turns back may be rolled back once more.
+/// Says that a member that turns back may be rolled back once more.
 pub fn exhausted_members_never_turn_back()
     ensures { (s : State) → Sound s → (seat : ℕ) (attempt : Attempt) (why : Reverse) → May (Event.TurnBack seat attempt why) s
         → MayTurnBack attempt.tried.number s.parts.pool }
 {}
 
-/// The answers that turned a member back are those events in which a seat turns back; each is counted. There are at most eight
-/// of them for each member that there ever was and for each entry.
+/// Says that the answers that turned a member back are the events in which a seat turns back, and that each is counted. There are at most
+/// eight of them for each member that there ever was and for each entry.
 pub fn runs_turn_back_seldom()
     ensures counted { (es : List Event) (s end : State) → Follows s es end → refusals end.counters ≡ refusals s.counters + count_by is_back es }
     ensures few { (es : List Event) (s end : State) → Follows s es end → Sound s
         → refusals s.counters + count_by is_back es ≤ max_rollbacks * (end.parts.next + length end.parts.entries) }
 {}
 
-/// An entry that isn't the last one, which tells how a run stopped, takes the rollbacks of its member off.
+/// Says that an entry resets the rollbacks of its member, unless it is the last one, which notes how the run stopped.
 pub fn entries_take_rollbacks_off()
     ensures { (s : State) → Sound s → (e : Event)
         → All (λ entry. is_ordinary entry.kind ≡ true → rollbacks_at entry.number (after e s).parts.pool ≡ 0) (entries_told e) }

@@ -1,4 +1,4 @@
--- What is left of the log does to the cells now what all of it did to those before.
+-- The rest of the log does to the cells now what all of it did to those before.
 use Rattle.std.proofs.Common.{drop}
 use Rattle.ame_rows.proofs.LettingGoLemmas.{Releasing}
 use Rattle.ame_rows.proofs.letting_go.release_each.Given as goal

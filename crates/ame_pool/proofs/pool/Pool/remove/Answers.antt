@@ -10,4 +10,4 @@ remove-requires g c = at_weaker is_busy is_away busy_away c.args.number _ c.args
 pub invariant_of-self : goal.invariant_of-self
 invariant_of-self g c =
     let o = opened is_busy c.args.number _ c.args.self.now c.self.view_is c.requires in
-    rw c.remove.ensures.roll (watched_except c.self.invariant c.args.number o.member o.found c.unlist.ensures)
+    rw c.remove.ensures.registry (watched_except c.self.invariant c.args.number o.member o.found c.unlist.ensures)

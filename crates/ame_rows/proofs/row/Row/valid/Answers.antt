@@ -1,4 +1,4 @@
--- The first read that isn't valid is where the loop stops.
+-- The loop stops at the first read that isn't valid.
 use Rattle.std.proofs.Common.{◌≡◌, arith, refl, ap, ◌∙◌, subst, get_or}
 use Rattle.std.proofs.lemmas.List.{take_all}
 use Rattle.std.proofs.lemmas.List.Elements.{All-more}

@@ -146,7 +146,7 @@ module _ {C V M : Type 0} (meaning : Meaning C V M) (same : V → V → Type 0)
         (Event.Alloc seat sort number (meaning.value_of core.code value)) core after refl refl (may-allocate going early)
         (record { code = refl; parts = parts-allocated; counted = refl; stop = refl }))
 
-    -- whatever is told of what is wanted
+    -- The event for any sort and number that the machine wants.
     pub makes-allocated : now.stop ≡ None → (meaning.stage now.code m).since < now.limits.slice → (t : Sort) (n : TyNo) (v : Val)
         → (meaning.stage now.code m).want ≡ Some (wants.Alloc t n) → value_to_set (meaning.stage now.code m) ≡ Some v
         → Makes meaning (Event.Alloc seat t n v) now after

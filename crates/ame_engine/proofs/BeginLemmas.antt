@@ -101,7 +101,7 @@ module _ {C V M : Type 0} (meaning : Meaning C V M) where
           (ap (option_map (λ (m : Member M). m.machine)) (found_altered number begun (λ m. refl) core.pool.members).here
           ∙ same-machine (find number core.pool.members) ∙ found))
 
-      -- a copy of it is where the seat's run stands
+      -- A copy of it is at the place of the seat's run.
       pub begun-on : (m : M) → meaning.stage core.code m ≡ meaning.stage core.code held_machine → meaning.is_machine core.code m
           → IsOn meaning (begun_by seat number core) seat m
       begun-on m same good = record {
@@ -252,7 +252,7 @@ module _ {C V M : Type 0} (meaning : Meaning C V M) (same : M → M → Type 0)
     pub has-begun-after : now.stop ≡ None → HasBegun meaning seat number now after m
     has-begun-after going = record { event = makes-begun going; on = on-after; rests = rests-after; runs = runs-after }
 
--- What a seat meets is the cause of a stop
+-- A seat meets the cause of a stop
 
 abbrev is-spent : {C V M : Type 0} → Core C V M → Bool
 is-spent core = if nat_lt core.turns core.limits.turns then false else true
@@ -349,7 +349,7 @@ module _ {C V M : Type 0} (meaning : Meaning C V M) (core now : Core C V M) (vie
       (fault-cause why e (parts_of meaning core) (parts_of meaning (stopped_by why core))
       core.certificates (none-kept (subst (λ (x : Core C V M). x.stop ≡ None) (sym view) none)) refl)
 
-  -- where a seat is idle, and it is the only one, nobody is at work
+  -- If a seat is idle, and it is the only one, no member is at work.
   pub idle-leaves : (seat : ℕ) → seat < now.limits.seats → task_at now.tasks seat ≡ Task.Idle
       → LeavesNoTry Stop.Spent (parts_of meaning now)
   idle-leaves seat within idle =

@@ -17,7 +17,7 @@ use Rattle.ame_pool.specs.Calls.{inside_of}
 use Rattle.ame_protocol.specs.Waits.Waiting.{is_stuck, last_stuck}
 use Rattle.ame_protocol.proofs.Row.CellLemmas.{which}
 use Rattle.ame_protocol.proofs.Waits.WatchLemmas.{last-same, last-here}
-use Rattle.ame_protocol.specs.declared.certificate.Certificate.{Certificate}
+use Rattle.ame_journal.specs.declared.certificate.Certificate.{Certificate}
 use Rattle.ame_protocol.specs.Engine.Parts.{Parts}
 use Rattle.ame_protocol.specs.Engine.Shown.{shown_member}
 use Rattle.ame_protocol.proofs.Engine.ToldLemmas.{next-free}
@@ -65,7 +65,7 @@ module _ {M : Type 0} where
   weaker : (j k : ℕ) → k ≤ suc j → (ms : List (Member M)) → All (λ m. j < m.number) ms → All (λ m. k ≤ m.number) ms
   weaker j k le ms all = All-weaker (λ (x : Member M). j < x.number) (λ (x : Member M). k ≤ x.number) (λ m h. omega (arith, le, h)) ms all
 
-  -- nobody has the next number
+  -- No member has the next number.
   pub below-none : (k : ℕ) (ms : List (Member M)) → find k ms ≡ None → numbers-below (k + 1) ms ≡ numbers-below k ms
   below-none k [] none = refl
   below-none k (m ∷ ms) none = by (m.number == k) refl none (λ rest. below-none k ms rest)
@@ -90,7 +90,7 @@ module _ {M : Type 0} where
           grind (arith, nat_tests, same, none, none')
       by false is e go = let same = go e in let apart = eqb-false m.number k is in grind (arith, nat_tests, same, apart)
 
-  -- all numbers are below one at which and behind which nobody is
+  -- All numbers are below a number that no member has, and after which there is none.
   found-first : (m : Member M) (ms : List (Member M)) (i : ℕ) → m.number ≡ i → find i (m ∷ ms) ≡ Some m
   found-first m ms i e = ap (λ (b : Bool). cond b (Some m) (find i ms)) (eq-eqb m.number i e)
 
@@ -118,7 +118,7 @@ module _ {M : Type 0} where
   below-zero (m ∷ ms) = let rest = below-zero ms in grind (arith, nat_tests, rest)
 
 module _ {M : Type 0} where
-  -- by what is told of a number
+  -- The number joins if a member has it.
   pub number-joins : (k : ℕ) (ms : List (Member M)) → IsRising ms → is_some (option_map (λ m. m.inside) (find k ms)) ≡ true
       → numbers-below (k + 1) ms ≡ numbers-below k ms ++ k ∷ []
   number-joins k ms rising told = by (find k ms) refl told
@@ -138,7 +138,7 @@ module _ {M : Type 0} where
   shown-numbers term [] = refl
   shown-numbers term (m ∷ ms) = ap (λ (ns : List ℕ). m.number ∷ ns) (shown-numbers term ms)
 
--- Where the last notes stand
+-- The places of the last notes
 
 or-none : (o : Option Entry) → or_else o None ≡ o
 or-none None = refl
@@ -290,7 +290,7 @@ module _ {C V M : Type 0} (meaning : Meaning C V M) (core now : Core C V M) (vie
       subst (λ (x : Core C V M). ns ≡ numbers-below k x.pool.members → ns ≡ map (λ m. m.number) x.pool.members) view
       (λ so. so ∙ ap (λ (n : ℕ). numbers-below n core.pool.members) same ∙ numbers-all) so_far
 
-  -- the next one, by what is told of it
+  -- The next number, by whether a member has it.
   module _ (k : ℕ) (o : Option Bool) (told : o ≡ inside_of k core.pool) (b : Bool) (b_is : b ≡ is_some o) (ns : List ℕ) (so_far : ns ≡ numbers-below k now.pool.members) where
     pub numbers-joined : b ≡ true → (new : List ℕ) → new ≡ ns ++ k ∷ [] → new ≡ numbers-below (k + 1) now.pool.members
     numbers-joined is-there new pushes =

@@ -23,7 +23,7 @@ use Rattle.ame_protocol.proofs.Engine.MemoryEvents.{memory-valid}
 use Rattle.ame_protocol.specs.declared.stop.Stop.{Stop}
 use Rattle.ame_engine.specs.Core.{Core}
 use Rattle.ame_engine.specs.Stops.{stopped_by}
-use Rattle.ame_protocol.specs.Event.Causes.{HasCause, AreOrdinary}
+use Rattle.ame_protocol.specs.Event.Causes.{HasCause, only_seats_keep}
 use Rattle.ame_protocol.specs.Event.Counting.{Counted, one_counted}
 use Rattle.ame_protocol.specs.Event.Event.{Event}
 use Rattle.ame_protocol.specs.Event.May.{May}
@@ -33,11 +33,10 @@ use Rattle.ame_engine.specs.Whole.{IsSound}
 use Rattle.ame_engine.specs.AtWork.{IsOnSeat, IsOn}
 use Rattle.ame_engine.proofs.MakesLemmas.{made-event}
 use Rattle.ame_engine.proofs.ReadLemmas.{place-by, runs-as}
-use Rattle.ame_protocol.proofs.Event.CauseLemmas.{going-ordinary}
 use Rattle.ame_protocol.specs.Event.Bounds.{LeavesNoTry}
 use Rattle.ame_machine.specs.Meaning.{Meaning}
 use Rattle.ame_engine.proofs.SoundLemmas.{sound-next}
-use Rattle.ame_engine.proofs.HaltLemmas.{makes-halted, noted-apart}
+use Rattle.ame_engine.proofs.HaltLemmas.{makes-halted}
 
 -- Valid reads are so at the shown cells.
 
@@ -83,7 +82,7 @@ its-task {C} {V} {M} core now view seat held has t a e f =
     task-read core.tasks seat t
     (working-within core.tasks seat held (subst (λ (x : Core C V M). working (task_at x.tasks seat) ≡ Some held) (sym view) has)) e ∙ f
 
--- where the run has used all inputs
+-- The run has used all inputs.
 has-used : (parts : Parts) (seat : ℕ) (s : MachineView) (on : IsOnSeat parts seat s) → s.inside ≡ false
     → (p : LocalState) × HasUsed (run_in parts seat on.attempt.tried.number) s.steps p
 has-used parts seat s on outside =
@@ -93,20 +92,17 @@ has-used parts seat s on outside =
     (place.0, record { ran = subst (λ (x : Side). local x start inputs s.steps ≡ Some place.0) (ap side_told outside) place.1; used = place.3 })
 
 module _ {C V M : Type 0} (meaning : Meaning C V M) where
-  -- a stop is kept, where it is the first, and has its cause
-  pub whole-kept : (core now : Core C V M) → core ≡ now → (why : Stop) → IsSound meaning core → core.stop ≡ None
+  -- The first stop is kept, and it has its cause.
+  pub whole-kept : (core now : Core C V M) → core ≡ now → (why : Stop) → IsSound meaning core → core.stop ≡ None → only_seats_keep why ≡ false
       → (now.stop ≡ None → HasCause (Some why) now.certificates (parts_of meaning (stopped_by why now)))
       → (now.stop ≡ None → LeavesNoTry why (parts_of meaning now))
       → IsSound meaning (record core { stop = Some why })
-  whole-kept core now view why whole none cause leaves =
+  whole-kept core now view why whole none apart cause leaves =
       let going : now.stop ≡ None = subst (λ (x : Core C V M). x.stop ≡ None) view none in
-      let ordinary : AreOrdinary now.entries = subst (λ (x : Core C V M). AreOrdinary x.entries) view
-      (going-ordinary (parts_of meaning core) (parts_of meaning core) core.stop none core.certificates whole.state.caused) in
       let is : ◌≡◌ {A = Core C V M} (record core { stop = Some why }) (stopped_by why now) =
       ap (λ (o : Option Stop). record core { stop = Some (unwrap_or o why) }) (sym none) ∙ ap (stopped_by why) view in
       sound-next meaning core now (record core { stop = Some why }) view whole (Event.Halt why)
-      (makes-halted meaning now (record core { stop = Some why }) going why is (noted-apart why now.certificates (parts_of meaning (stopped_by why now)) (cause going) ordinary)
-      (cause going) (leaves going)) whole.memory whole.members whole.text
+      (makes-halted meaning now (record core { stop = Some why }) going why is apart (cause going) (leaves going)) whole.memory whole.members whole.text
 
   module _ (core now : Core C V M) (view : core ≡ now) (whole : IsSound meaning core) (seat : ℕ) (m : M)
       (on : IsOn meaning now seat m) (outside : (meaning.stage now.code m).inside ≡ false)

@@ -5,7 +5,6 @@ use Rattle.std.specs.List.Sorted.{IsPermutation, IsStrictlyIncreasing}
 use Rattle.std.specs.Option.{option_map_or}
 use Rattle.std.proofs.lemmas.List.Elements.{All-map, All-set, All-nil, All-cons, All-head, All-tail, All-weaker}
 use Rattle.ame_io.specs.Lines.{lines}
-use Rattle.ame_io.proofs.LinesLemmas.{lines-append}
 use Rattle.ame_term.specs.Tree.{Val, Tree}
 use Rattle.ame_term.specs.declared.types.Sort.{Sort}
 use Rattle.ame_term.specs.Frame.{Side, side_told}
@@ -69,6 +68,7 @@ use Rattle.ame_engine.proofs.CrewLemmas.{woken-rest, all-woken-shown, busy-told,
 use Rattle.ame_machine.specs.Meaning.{Meaning}
 use Rattle.ame_machine.specs.RefSorts.{IsRefForm}
 use Rattle.ame_engine.proofs.SoundLemmas.{sound-next}
+use Rattle.ame_engine.proofs.LedgerLemmas.{list-appended, text-appended}
 
 -- what the machine wants
 pub which-want : (o : Option Wants) → commits o ≡ true → (o ≡ Some wants.Done) ⊎ (o ≡ Some wants.Leave)
@@ -87,7 +87,7 @@ which-want (Some (wants.Print n)) e = absurd (let clash : false ≡ true = e in 
 which-want (Some wants.Tall) e = absurd (let clash : false ≡ true = e in cc)
 which-want (Some wants.OutOfFuel) e = absurd (let clash : false ≡ true = e in cc)
 
--- where the run stands, by what the machine shows
+-- The place of the run, by what the machine shows.
 pub shown-place : (o : Option LocalState) (s : MachineView) → option_map without_footprint o ≡ Some (with_answer None (place_shown s))
     → (p : LocalState) × (o ≡ Some p) × (without_footprint p ≡ with_answer None (place_shown s))
 shown-place None s e = absurd (let clash : ◌≡◌ {A = Option LocalState} None (Some (with_answer None (place_shown s))) = e in cc)
@@ -298,8 +298,7 @@ module _ {C V M : Type 0} (meaning : Meaning C V M)
             → All (IsAtRest meaning.is_machine meaning.stage core.code) final.members)
             (memory : MemoryView V) (memory_is : memory ≡ released_all seat core.memory)
             (printed output prints : List ℤ) (prints_are : prints ≡ s.prints) (printed_is : printed ≡ core.output) (appends : output ≡ printed ++ prints)
-            (written text added bytes : List ℕ) (told : List ℤ) (told_are : told ≡ s.prints) (bytes_are : bytes ≡ lines told) (added_is : added ≡ bytes)
-            (written_is : written ≡ core.text) (writes : text ≡ written ++ added)
+            (written text added : List ℕ) (added_is : added ≡ lines s.prints) (written_is : written ≡ core.text) (writes : text ≡ written ++ added)
             (before entries : List Entry) (entry : Entry) (entry_is : entry ≡ ran_entry seat number s.steps (place_shown s))
             (before_is : before ≡ core.entries) (pushes : entries ≡ before ++ entry ∷ []) (next : ℕ) (next_is : next ≡ core.next + count) where
           rests : All (IsAtRest meaning.is_machine meaning.stage core.code) final.members
@@ -324,16 +323,13 @@ module _ {C V M : Type 0} (meaning : Meaning C V M)
           }
 
           output-is : output ≡ core.output ++ s.prints
-          output-is = appends ∙ ap (λ (ns : List ℤ). ns ++ prints) printed_is ∙ ap (λ (ns : List ℤ). core.output ++ ns) prints_are
+          output-is = list-appended core.output printed output prints s.prints printed_is appends prints_are
 
           text-is : text ≡ lines output
-          text-is =
-              writes ∙ ap (λ (bs : List ℕ). bs ++ added) (written_is ∙ whole.text)
-              ∙ ap (λ (bs : List ℕ). lines core.output ++ bs) (added_is ∙ bytes_are ∙ ap lines told_are)
-              ∙ sym (lines-append core.output s.prints) ∙ sym (ap lines output-is)
+          text-is = text-appended core.output output s.prints core.text written text added whole.text written_is writes added_is output-is
 
           entries-are : entries ≡ core.entries ++ ran_entry seat number s.steps (place_shown s) ∷ []
-          entries-are = pushes ∙ ap (λ (es : List Entry). es ++ entry ∷ []) before_is ∙ ap (λ (e : Entry). core.entries ++ e ∷ []) entry_is
+          entries-are = list-appended core.entries before entries (entry ∷ []) (ran_entry seat number s.steps (place_shown s) ∷ []) before_is pushes (ap (λ (e : Entry). e ∷ []) entry_is)
 
           next-is : next ≡ core.next + length s.spawns
           next-is = next_is ∙ ap (λ (n : ℕ). core.next + n) count_is

@@ -32,7 +32,7 @@ use Rattle.ame_protocol.proofs.Engine.ShownMemoryLemmas.{row-shown}
 use Rattle.ame_protocol.specs.Waits.Certificates.{IsCertificate, HasCertificate}
 use Rattle.ame_protocol.proofs.Waits.CertificateLemmas.{blocked-certificates}
 use Rattle.ame_protocol.proofs.Visits.EndLemmas.{idle-clear, all-stored, state-empty, pool-empty}
-use Rattle.ame_protocol.specs.declared.certificate.Certificate.{Certificate}
+use Rattle.ame_journal.specs.declared.certificate.Certificate.{Certificate}
 use Rattle.ame_protocol.specs.declared.stop.Stop.{Stop}
 use Rattle.ame_engine.specs.Core.{Core}
 use Rattle.ame_protocol.specs.Event.Faults.{LeadsToCall}

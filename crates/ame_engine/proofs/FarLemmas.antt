@@ -7,7 +7,7 @@ use Rattle.ame_journal.specs.declared.entry.Entry.{Entry}
 use Rattle.ame_protocol.specs.Engine.Simulates.{most_opened}
 use Rattle.ame_engine.specs.Resuming.{IsNear, IsFar}
 
--- no entry is far where all are near
+-- No entry is far if all are near.
 pub near-far : (base : List Entry) → All IsNear base → (n : ℕ) → IsFar base n → ⊥
 near-far base near n f =
     let all : All IsNear (take (n - 1) base ++ f.entry ∷ []) = subst (All IsNear) f.is_entry (All-take IsNear n base near) in

@@ -45,7 +45,7 @@ use Rattle.ame_protocol.proofs.Event.BoundLemmas.{busy-leaves_no_try}
 use Rattle.ame_machine.specs.Meaning.{Meaning}
 use Rattle.ame_engine.proofs.SoundLemmas.{sound-next}
 
--- which is told then
+-- The attempt has an entry then.
 told-has : (t : Task) (a : Attempt) → working t ≡ Some a → attempt_of (told_task t) ≡ Some (record a { logged = true })
 told-has Task.Idle a e = absurd (let clash : ◌≡◌ {A = Option Attempt} None (Some a) = e in cc)
 told-has (Task.Running b) a e = let same : b ≡ a = cc in ap (λ (x : Attempt). Some (record x { logged = true })) same
@@ -99,7 +99,7 @@ module _ {C V M : Type 0} (meaning : Meaning C V M)
       let same : attempt ≡ a = (let both : Some attempt ≡ Some a = sym last-has ∙ e in cc) in
       let since : s.steps ≡ s.since + a.tried.steps = subst (λ (x : Attempt). s.steps ≡ s.since + x.tried.steps) same on'.since in omega arith
 
-  -- where its run stands
+  -- The place of its run
   place : (p : LocalState)
       × (local (running_side s) (term_at parts.pool number) (row_at parts.memory.rows seat).inputs s.steps ≡ Some p)
       × (without_footprint p ≡ with_answer None (place_shown s))
@@ -327,7 +327,7 @@ module _ {C V M : Type 0} (meaning : Meaning C V M)
         pub tall-told : attempt_of later ≡ Some (record attempt { logged = true })
         tall-told = last-places EntryKind.Tall entry tall-entry before entries before_is pushes later tall-later
 
--- Where a seat has a member at work, and the turns are used up, that is a cause to stop.
+-- If a seat has a member at work and the turns are used up, that is a cause to stop.
 
 module _ {C V M : Type 0} (meaning : Meaning C V M)
     (core now : Core C V M) (view : core ≡ now) (whole : IsSound meaning core) (seat : ℕ)
@@ -355,7 +355,7 @@ module _ {C V M : Type 0} (meaning : Meaning C V M)
       its : (a : Attempt) × (attempt_of (task_at core.tasks seat) ≡ Some a)
       its = there (attempt_of (task_at core.tasks seat)) (subst (λ (x : Core C V M). IsSome (attempt_of (task_at x.tasks seat))) (sym view) has)
 
-  -- with one seat no try follows, where it runs no code whose reads are valid
+  -- With one seat no attempt is left without an entry, if the seat runs no code whose reads are valid.
   pub spent-leaves : (IsValid now.memory.cells seat (row_at now.memory.rows seat).reads → working (task_at now.tasks seat) ≡ None) → now.stop ≡ None
       → LeavesNoTry Stop.Spent (parts_of meaning now)
   spent-leaves stuck none =

@@ -6,6 +6,7 @@ pub mod StartLemmas
 pub mod ReadLemmas
 pub mod MakesLemmas
 pub mod SoundLemmas
+pub mod LedgerLemmas
 pub mod HaltLemmas
 pub mod RunLemmas
 pub mod BeginLemmas

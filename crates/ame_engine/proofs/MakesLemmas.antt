@@ -1,4 +1,4 @@
--- What it tells that an engine makes an event, and when it does.
+-- The facts that follow when an engine makes an event, and when it makes one.
 use Rattle.std.proofs.Common.{◌≡◌, ℕ, ℤ, Option, Some, None, refl, ap, ◌∙◌, sym, subst}
 use Rattle.std.specs.Prelude.{is_some}
 use Rattle.ame_term.specs.Tree.{Val}

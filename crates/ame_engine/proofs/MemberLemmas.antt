@@ -24,7 +24,7 @@ module _ {M : Type 0} where
         | false ↦ All-cons P o (altered n f ms) head (all_altered n f P keeps ms tail)
       ]
 
-  -- whether a member is inside, by what is told of it
+  -- A member is inside as its entry in the list says.
   pub inside-told : (ms : List (Member M)) (n : ℕ) → is_inside_at ms n ≡ unwrap_or (option_map (λ (m : Member M). m.inside) (find n ms)) false
   inside-told ms n = by (find n ms)
     where

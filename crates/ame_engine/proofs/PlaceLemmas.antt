@@ -1,4 +1,4 @@
--- Each seat whose attempt no entry tells keeps a free place for its try.
+-- Each seat whose attempt has no entry keeps a free place for it.
 use Rattle.std.proofs.Common.{◌≡◌, ℕ, ◌+◌, ◌<◌, ◌≤◌, Bool, true, false, not, cond, List, set, length, count_by, replicate, Some, length-set, refl, sym, ap, ◌∙◌, subst, arith}
 use Rattle.std.specs.Prelude.{if◌then◌else◌}
 use Rattle.std.proofs.lemmas.List.Folds.{sum_by-replicate}
@@ -24,11 +24,11 @@ count-set tasks seat task within = sum_by-set (λ (t : Task). cond (is_untold t)
 pub places-idle : (seats tries places : ℕ) → tries ≤ places → HasPlacesFor (replicate seats Task.Idle) tries places
 places-idle seats tries places h = let none = sum_by-replicate (λ (t : Task). cond (is_untold t) 1 0) seats Task.Idle in omega (arith, none, h)
 
--- where there are more places
+-- There are more places.
 pub places-roomy : (tasks : List Task) (tries places later capacity : ℕ) → later ≡ tries → places ≤ capacity → HasPlacesFor tasks tries places → HasPlacesFor tasks later capacity
 places-roomy tasks tries places later capacity e h enough = omega (arith, e, h, enough)
 
--- where there is a place for every seat
+-- There is a place for every seat.
 pub places-begun : (tasks : List Task) (seat tries places : ℕ) (task : Task) → tries + length tasks ≤ places → HasPlacesFor (set tasks seat task) tries places
 places-begun tasks seat tries places task h =
     let few = count_by-le-length is_untold (set tasks seat task) in let same = length-set tasks seat task in omega (arith, few, same, h)
@@ -41,7 +41,7 @@ module _ (tasks : List Task) (seat tries places : ℕ) (attempt : Attempt) (has 
   told-there : is_untold (task_at tasks seat) ≡ not attempt.logged
   told-there = untold-is (task_at tasks seat) attempt has
 
-  -- the seat goes on with an attempt that is told where this one is
+  -- The seat goes on with an attempt that has an entry exactly if this one has.
   pub places-kept : (task : Task) (later : Attempt) → attempt_of task ≡ Some later → later.logged ≡ attempt.logged → HasPlacesFor (set tasks seat task) tries places
   places-kept task later its same =
       let one = count-set tasks seat task within in
@@ -49,7 +49,7 @@ module _ (tasks : List Task) (seat tries places : ℕ) (attempt : Attempt) (has 
       let both : ◌≡◌ {A = ℕ} (cond (is_untold task) 1 0) (cond (is_untold (task_at tasks seat)) 1 0) = ap (λ (b : Bool). cond b 1 0) is in
       let all = enough in omega (arith, one, both, all)
 
-  -- or with one that an entry tells
+  -- Or it goes on with an attempt that has an entry.
   pub places-told : (task : Task) (later : Attempt) → attempt_of task ≡ Some later → later.logged ≡ true → HasPlacesFor (set tasks seat task) tries places
   places-told task later its told =
       let one = count-set tasks seat task within in
@@ -67,7 +67,7 @@ module _ (tasks : List Task) (seat tries places : ℕ) (attempt : Attempt) (has 
       let yes : ◌≡◌ {A = ℕ} (cond (is_untold (task_at tasks seat)) 1 0) 1 = ap (λ (b : Bool). cond b 1 0) (told-there ∙ ap not told) in
       let all = enough in omega (arith, one, yes, all)
 
-  -- the seat is idle then, and the try is told unless an entry tells it
+  -- Then the seat is idle, and the attempt is listed unless it has an entry.
   pub places-home : HasPlacesFor (set tasks seat Task.Idle) (if attempt.logged then tries else tries + 1) places
   places-home = by attempt.logged refl
     where

@@ -56,7 +56,7 @@ module _ {V : Type 0} (IsGood : V → Type 0) where
   read-good seat l input good (Some cell) notes all =
       record { inputs = All-push IsGood notes.inputs input all.inputs good; undos = all.undos }
 
--- Where the run stands
+-- The place of the run
 
 pub place-by : (o : Option LocalState) (s : MachineView) → option_map without_footprint o ≡ Some (with_answer None (place_shown s))
     → (p : LocalState) × (o ≡ Some p) × (p.term ≡ s.term) × (p.inputs ≡ [])
@@ -78,7 +78,7 @@ running-attempt (Task.Undoing b reason) a e free = cc
 pub runs-as : (parts : Parts) (seat : ℕ) (s : MachineView) (on : IsOnSeat parts seat s) → s.inside ≡ false → task_at parts.tasks seat ≡ Task.Running on.attempt
 runs-as parts seat s on outside = running-attempt (task_at parts.tasks seat) on.attempt on.has (sym on.side ∙ outside)
 
--- where the run has come to an act
+-- The run has come to an act.
 pub comes-to : (parts : Parts) (seat : ℕ) (s : MachineView) (on : IsOnSeat parts seat s) (act : Act) → s.inside ≡ false → HasNextAct s act
     → (p : LocalState) × ComesTo (run_in parts seat on.attempt.tried.number) act s.steps p
 comes-to parts seat s on act outside there =
@@ -168,7 +168,7 @@ module _ {C V M : Type 0} (meaning : Meaning C V M) where
           (read-good (meaning.is_value core.code) seat l row.input (good-same row.input (row.copied there.0 there.1)) (slice_get core.memory.cells l.0)
           (row_at core.memory.rows seat) (row-good (meaning.is_value core.code) core.memory.rows seat whole.memory.rows))
 
-      -- its number is even exactly where it has no owner
+      -- The cell's number is even exactly if it has no owner.
       its-parity : All HasItsParity core.memory.cells → HasItsParity (cell_at (heap_in parts) l.0)
       its-parity parity =
           subst HasItsParity

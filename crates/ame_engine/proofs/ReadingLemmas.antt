@@ -1,4 +1,4 @@
--- A seat's read, by what the memory's call tells.
+-- A seat's read, by the contract of the memory's call.
 use Rattle.std.proofs.Common.{◌≡◌, ℕ, ◌+◌, ◌<◌, false, length, All, Option, Some, refl, sym, ap, ◌∙◌, subst, None}
 use Rattle.std.specs.Prelude.{slice_get}
 use Rattle.std.specs.Option.{ForSome}

@@ -110,7 +110,7 @@ module _ {V : Type 0} (same : V → V → Type 0) where
     few = let count : length cells ≡ index = f.count in let under : last < 4000000 = near in let few : length cells ≤ 4000000 = omega arith in few;
   }
 
--- What they show
+-- The cells as plain data
 
 module _ {C V M : Type 0} (meaning : Meaning C V M) (code : C) (same : V → V → Type 0)
     (good_same : (x y : V) → same x y → meaning.is_value code x → meaning.is_value code y) (shown_same : (x y : V) → same x y → meaning.value_of code x ≡ meaning.value_of code y)

@@ -27,7 +27,7 @@ use Rattle.ame_rows.specs.MemoryView.{Log, MemoryView, no_log}
 use Rattle.ame_protocol.specs.declared.types.Limits.{Limits}
 use Rattle.ame_protocol.specs.declared.types.Task.{Task}
 use Rattle.ame_protocol.specs.declared.types.Tried.{Tried}
-use Rattle.ame_protocol.specs.declared.certificate.Certificate.{Certificate}
+use Rattle.ame_journal.specs.declared.certificate.Certificate.{Certificate}
 use Rattle.ame_protocol.specs.declared.counters.Counters.{Counters}
 use Rattle.ame_protocol.specs.Engine.Parts.{Parts}
 use Rattle.ame_protocol.specs.Engine.Shown.{shown_member, shown_pool}

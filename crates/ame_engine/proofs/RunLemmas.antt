@@ -24,7 +24,7 @@ use Rattle.ame_engine.specs.Whole.{resting_at}
 use Rattle.ame_engine.specs.AtWork.{IsOnSeat}
 use Rattle.ame_engine.proofs.ReadLemmas.{runs-as}
 
--- a machine that is where a seat's run of protected code stands can run
+-- A machine at the place of a seat's run of protected code can run.
 pub can-run : (parts : Parts) (s : Simulates parts) (seat : ℕ) (m : MachineView) → IsOnSeat parts seat m → m.inside ≡ false → CanRun m
 can-run parts s seat m on outside =
     let start = term_at parts.pool on.attempt.tried.number in

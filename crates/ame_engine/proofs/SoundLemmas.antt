@@ -1,4 +1,4 @@
--- What an engine keeps stands after each event that it makes.
+-- An engine is still sound after each event that it makes.
 use Rattle.std.proofs.Common.{◌≡◌, ◌∙◌, All, ap, sym, subst}
 use Rattle.ame_io.specs.Lines.{lines}
 use Rattle.ame_machine.specs.Meaning.{Meaning}

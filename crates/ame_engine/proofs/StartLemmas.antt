@@ -17,7 +17,7 @@ use Rattle.ame_protocol.specs.Engine.Parts.{Parts}
 use Rattle.ame_protocol.specs.Engine.Shown.{shown_notes}
 use Rattle.ame_protocol.specs.Engine.Events.{started}
 use Rattle.ame_engine.specs.Core.{Core}
-use Rattle.ame_protocol.specs.declared.certificate.Certificate.{Certificate}
+use Rattle.ame_journal.specs.declared.certificate.Certificate.{Certificate}
 use Rattle.ame_protocol.specs.declared.counters.Counters.{Counters}
 use Rattle.ame_protocol.specs.Event.Counting.{nothing_counted}
 use Rattle.ame_engine.specs.Seen.{parts_of}

@@ -1,4 +1,4 @@
--- A seat's undo, by what the calls tell.
+-- A seat's undo, by the contracts of the calls.
 use Rattle.std.proofs.Common.{◌≡◌, ℕ, ◌+◌, ◌<◌, Bool, true, false, List, get_or, length, All, Option, Some, None, IsTrue, IsSome, IsSomeAnd, option_map, refl, sym, ap, ◌∙◌, subst, arith}
 use Rattle.std.specs.Prelude.{slice_set, is_some, if◌then◌else◌}
 use Rattle.std.proofs.lemmas.List.{length-map}

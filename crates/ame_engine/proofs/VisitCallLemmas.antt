@@ -1,6 +1,7 @@
 -- A visit that ends with a call of a device, or that a device refused.
 use Rattle.std.proofs.Common.{◌≡◌, ℕ, ◌+◌, ◌^◌, ◌<◌, ◌≤◌, true, false, List, [], ◌∷◌, ◌++◌, length, All, Option, Some, None, Ok, refl, sym, ap, ◌∙◌, subst, append-nil, arith}
 use Rattle.std.specs.Prelude.{ℤ, slice_set, unwrap_or}
+use Rattle.ame_io.specs.Lines.{lines}
 use Rattle.ame_term.specs.Tree.{Val, Tree}
 use Rattle.ame_term.specs.Frame.{Side, side_told}
 use Rattle.ame_term.specs.Context.{Focus}
@@ -279,7 +280,7 @@ module _ {C V M : Type 0} (meaning : Meaning C V M)
             whole-visited meaning core core refl whole seat attempt is left' n (Some answer) changes.Stays visit-called
             0 (sym (ap (λ (xs : List Tree). length xs) none-made)) (with_room 0 core.pool) refl core.pool joined-same n final keeps-stage sends machine settles-called
             (λ h. h) (λ h all. all) send-rests core.memory refl tt
-            core.output core.output [] (sym none-printed) refl (sym (append-nil core.output)) core.text core.text [] [] [] (sym none-printed) refl refl refl (sym (append-nil core.text))
+            core.output core.output [] (sym none-printed) refl (sym (append-nil core.output)) core.text core.text [] (ap (λ (ns : List ℤ). lines ns) (sym none-printed)) refl (sym (append-nil core.text))
             old-entries entries entry entry-so old_is pushes core.next (omega arith)
             (subst (λ (x : Core C V M). x.stop ≡ None) (sym view) going) low-called
 
@@ -289,7 +290,7 @@ module _ {C V M : Type 0} (meaning : Meaning C V M)
             makes-visited meaning core core refl whole seat attempt is left' n (Some answer) changes.Stays visit-called
             0 (sym (ap (λ (xs : List Tree). length xs) none-made)) (with_room 0 core.pool) refl core.pool joined-same n final keeps-stage sends machine settles-called
             (λ h. h) (λ h all. all) send-rests core.memory refl tt
-            core.output core.output [] (sym none-printed) refl (sym (append-nil core.output)) core.text core.text [] [] [] (sym none-printed) refl refl refl (sym (append-nil core.text))
+            core.output core.output [] (sym none-printed) refl (sym (append-nil core.output)) core.text core.text [] (ap (λ (ns : List ℤ). lines ns) (sym none-printed)) refl (sym (append-nil core.text))
             old-entries entries entry entry-so old_is pushes core.next (omega arith)
             (subst (λ (x : Core C V M). x.stop ≡ None) (sym view) going) low-called
 

@@ -2,7 +2,6 @@
 use Rattle.std.proofs.Common.{◌≡◌, ℕ, ◌+◌, ◌<◌, ◌≤◌, Bool, false, List, [], ◌∷◌, ◌++◌, length, All, Option, Some, None, refl, sym, ap, ◌∙◌, subst, arith}
 use Rattle.std.specs.Prelude.{ℤ, slice_set, max}
 use Rattle.ame_io.specs.Lines.{lines}
-use Rattle.ame_io.proofs.LinesLemmas.{lines-append}
 use Rattle.ame_term.specs.Tree.{Val, Tree}
 use Rattle.ame_journal.specs.declared.entry.Entry.{Entry}
 use Rattle.ame_journal.specs.JournalView.{IsFit}
@@ -43,6 +42,7 @@ use Rattle.ame_engine.proofs.VisitMemoryLemmas.{changed-good, changed-shown}
 use Rattle.ame_machine.specs.Meaning.{Meaning}
 use Rattle.ame_machine.specs.RefSorts.{IsRefForm}
 use Rattle.ame_engine.proofs.SoundLemmas.{sound-next}
+use Rattle.ame_engine.proofs.LedgerLemmas.{list-appended, text-appended}
 
 -- A member goes home with no more than its term
 
@@ -66,7 +66,7 @@ module _ {C M : Type 0} (is_machine : C → M → Type 0) (stage : C → M → M
       (all_altered number (renewed settled inside) (IsAtRest is_machine stage code)
       (λ m rests. record { machine = machine; rests = settled-rests there }) pool.members all)
 
--- room for nobody is there
+-- Room for no member is there
 
 pub room-stays : {M : Type 0} (pool : Roster M) (count : ℕ) (bodies : List Tree) → count ≡ length bodies → bodies ≡ [] → with_room count pool ≡ pool
 room-stays pool count bodies is none =
@@ -116,7 +116,7 @@ module _ {C V M : Type 0} (meaning : Meaning C V M)
   called-fit begun entry m answer e f =
       subst IsFit (sym (f ∙ ap (λ (x : Entry). record x { steps = x.steps + 1; answer = Some answer }) e)) (record { seat = end-few; answer = tt })
 
-  -- a machine has come to where the visit ends
+  -- A machine has come to the end of the visit.
   module _ (m : M) (answer : Option ℤ) (change : Change V)
       (visit-now : IsVisitTo (parts_of meaning now) number answer (meaning.stage now.code m)
       (changed_by (meaning.value_of now.code) change (parts_of meaning now).memory)) where
@@ -169,8 +169,7 @@ module _ {C V M : Type 0} (meaning : Meaning C V M)
             → All (IsAtRest meaning.is_machine meaning.stage core.code) final.members)
             (memory : MemoryView V) (memory_is : memory ≡ changed_by (λ v. v) change core.memory) (good-now : IsGoodChange (meaning.is_value now.code) (IsRefForm (meaning.program now.code)) change)
             (printed output prints : List ℤ) (prints_are : prints ≡ s.prints) (printed_is : printed ≡ core.output) (appends : output ≡ printed ++ prints)
-            (written text added bytes : List ℕ) (told : List ℤ) (told_are : told ≡ s.prints) (bytes_are : bytes ≡ lines told) (added_is : added ≡ bytes)
-            (written_is : written ≡ core.text) (writes : text ≡ written ++ added)
+            (written text added : List ℕ) (added_is : added ≡ lines s.prints) (written_is : written ≡ core.text) (writes : text ≡ written ++ added)
             (before entries : List Entry) (entry : Entry) (entry_is : entry ≡ free_entry seat number s.steps (with_answer answer (place_shown s)))
             (before_is : before ≡ core.entries) (pushes : entries ≡ before ++ entry ∷ []) (next : ℕ) (next_is : next ≡ core.next + count) where
           machine' : meaning.is_machine core.code m
@@ -201,16 +200,13 @@ module _ {C V M : Type 0} (meaning : Meaning C V M)
           }
 
           output-is : output ≡ core.output ++ s.prints
-          output-is = appends ∙ ap (λ (ns : List ℤ). ns ++ prints) printed_is ∙ ap (λ (ns : List ℤ). core.output ++ ns) prints_are
+          output-is = list-appended core.output printed output prints s.prints printed_is appends prints_are
 
           text-is : text ≡ lines output
-          text-is =
-              writes ∙ ap (λ (bs : List ℕ). bs ++ added) (written_is ∙ whole.text)
-              ∙ ap (λ (bs : List ℕ). lines core.output ++ bs) (added_is ∙ bytes_are ∙ ap lines told_are)
-              ∙ sym (lines-append core.output s.prints) ∙ sym (ap lines output-is)
+          text-is = text-appended core.output output s.prints core.text written text added whole.text written_is writes added_is output-is
 
           entries-are : entries ≡ core.entries ++ free_entry seat number s.steps (with_answer answer (place_shown s)) ∷ []
-          entries-are = pushes ∙ ap (λ (es : List Entry). es ++ entry ∷ []) before_is ∙ ap (λ (e : Entry). core.entries ++ e ∷ []) entry_is
+          entries-are = list-appended core.entries before entries (entry ∷ []) (free_entry seat number s.steps (with_answer answer (place_shown s)) ∷ []) before_is pushes (ap (λ (e : Entry). e ∷ []) entry_is)
 
           next-is : next ≡ core.next + length s.spawns
           next-is = next_is ∙ ap (λ (n : ℕ). core.next + n) count_is

@@ -1,4 +1,4 @@
--- What a visit makes of a shared memory whose values are of any kind.
+-- A shared memory with values of any kind, after a visit.
 use Rattle.std.proofs.Common.{◌≡◌, ℕ, ◌==◌, Bool, true, false, cond, List, [], ◌∷◌, set, All, Option, Some, None, refl, subst}
 use Rattle.std.specs.Prelude.{option_and_then, slice_get}
 use Rattle.std.specs.Option.{option_map_or}
@@ -23,7 +23,7 @@ use Rattle.ame_engine.specs.Visiting.{changed_by, IsGoodChange}
 use Rattle.ame_engine.proofs.ReadLemmas.{row-good}
 
 module _ {V : Type 0} (IsGood : V → Type 0) (IsForm : Sort → ℕ → Type 0) where
-  -- What is committed is good
+  -- Committed values are good
 
   entry-good : (us : List (Undo V)) (l : ℕ) (u : Undo V) → All (IsGoodUndo IsGood) us → entry_at us l ≡ Some u → IsGoodUndo IsGood u
   entry-good [] l u all e = absurd (let clash : ◌≡◌ {A = Option (Undo V)} None (Some u) = e in cc)

@@ -1,4 +1,4 @@
--- Where a visit comes to from where the machine of a seat stands.
+-- The place to which a visit comes from the place of a seat's machine.
 use Rattle.std.proofs.Common.{◌≡◌, ℕ, ◌+◌, ◌<◌, Bool, true, false, List, [], ◌∷◌, length, Option, Some, None, option_map, refl, sym, ap, ◌∙◌, subst, ◌≤◌, arith}
 use Rattle.std.specs.Prelude.{◌||◌, ℤ, unwrap_or}
 use Rattle.std.specs.Option.{option_map_or}
@@ -39,7 +39,7 @@ free-attempt (Task.Running b) a e free = cc
 free-attempt (Task.Free b) a e free = ap Task.Free (ap (λ (o : Option Attempt). option_map_or (λ x. x) o b) e)
 free-attempt (Task.Undoing b reason) a e free = cc
 
--- a visit takes back no step
+-- A visit removes no step.
 grows-fed : (s : MachineView) (v : Val) (n : MachineView) → fed_stage v s ≡ Some n → s.steps ≤ n.steps
 grows-fed s v n e = let x = fed-to v s n e in let more = ap (λ (z : MachineView). z.steps) x.is in omega (arith, more)
 
@@ -73,7 +73,7 @@ module _ (parts : Parts) (stands : Simulates parts) (seat : ℕ) (s : MachineVie
   on-alone : OnRun start [] s
   on-alone = subst (λ (inputs : List Val). OnRun start inputs s) none-given on.run
 
-  -- its machine stands where so many steps alone lead
+  -- The machine is at the place to which its steps lead.
   pub visit-steps : StepsTo parts on.attempt.tried.number s.steps (place_shown s)
   visit-steps =
       let o = on-place start [] s on-alone in
@@ -174,7 +174,7 @@ module _ (parts : Parts) (stands : Simulates parts) (seat : ℕ) (s : MachineVie
         let c = comes_as s (Need.Device device argument) (need-there (wants.Device device argument) its) in
         acted-visit (Act.Calls device argument) c.1 (Val.Int answer) tt n fed
 
-    -- a machine that was fed settles where it is
+    -- A machine that was fed settles at its place.
     settles-fed : (v : Val) (n : MachineView) → fed_stage v s ≡ Some n → SettlesThere n
     settles-fed v n e = let x = fed-to v s n e in ap (λ (o : Option Wants). tells_leave o || n.inside) (ap (λ (z : MachineView). z.want) x.is)
 

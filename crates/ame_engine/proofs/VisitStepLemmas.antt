@@ -74,7 +74,7 @@ wanted-unit V s (inl e) = ap (λ (o : Option Wants). is_wanted {V = V} o input.U
 wanted-unit V s (inr (inl e)) = ap (λ (o : Option Wants). is_wanted {V = V} o input.Unit) e.1
 wanted-unit V s (inr (inr e)) = ap (λ (o : Option Wants). is_wanted {V = V} o input.Unit) e
 
--- It is left where it stands
+-- It is left at its place
 
 module _ {C V M : Type 0} (meaning : Meaning C V M) (core : Core C V M) (m : M) where
   pub served-left : meaning.is_machine core.code m → takes_input (meaning.stage core.code m).want ≡ false
@@ -125,7 +125,7 @@ module _ {C V M : Type 0} (meaning : Meaning C V M) (same : V → V → Type 0)
   need-there : (w : Wants) → s.want ≡ Some w → need_told w ≡ need_of s
   need-there w e = sound'.told w e
 
-  -- what it wants, told of the engine as it is seen
+  -- The machine's want, in the engine as contracts see it.
   wants-here : (w : Wants) → (meaning.stage now.code m).want ≡ Some w → s.want ≡ Some w
   wants-here w e = subst (λ (x : Core C V M). (meaning.stage x.code m).want ≡ Some w) (sym view) e
 

@@ -1,4 +1,4 @@
--- A machine that is where a seat's run stands.
+-- A machine that is at the place of a seat's run.
 use Rattle.std.proofs.Common.{◌≡◌, ℕ, ◌+◌, Bool, true, false, List, [], Some, refl, sym, ap, ◌∙◌, subst, arith}
 use Rattle.ame_term.specs.Tree.{Val, Tree}
 use Rattle.ame_rows.specs.MemoryView.{row_at}
@@ -21,7 +21,7 @@ begun-side : (inside : Bool) (a : Attempt) → is_free (begun_task inside a) ≡
 begun-side true a = refl
 begun-side false a = refl
 
--- A machine at rest is where the run of a seat stands that has begun it.
+-- A machine at rest is at the place of the run of a seat that has begun it.
 pub on-begun : (parts : Parts) (seat : ℕ) (a : Attempt) (inside : Bool) (t : Tree) (s : MachineView) → task_at parts.tasks seat ≡ begun_task inside a
     → s ≡ resting_at t inside → term_at parts.pool a.tried.number ≡ t → (row_at parts.memory.rows seat).inputs ≡ [] → a.tried.steps ≡ 0
     → IsOnSeat parts seat s

@@ -70,7 +70,7 @@ write-same : (l k : Loc) (o : Option Wants) → o ≡ Some (wants.Write l) → o
 unfolding write-at
 write-same l k o e f = ap (λ (w : Option Wants). write-at w l) (sym e ∙ f)
 
--- The seat that is told of in an answer
+-- The seat that an answer names
 
 owner-in : {E : Type 0} → Result Answer E → ℕ → ℕ
 owner-in (Ok (answer.Conflict owner)) d = owner
@@ -80,7 +80,7 @@ pub one-owner : {E : Type 0} (owner other : ℕ) → ◌≡◌ {A = Result Answe
 unfolding owner-in
 one-owner {E} owner other e = ap (λ (r : Result Answer E). owner-in r owner) e
 
--- Who owns the cell
+-- The owner of the cell
 
 module _ {V : Type 0} (seat : ℕ) (cell : Cell V) where
   done-cell : None ≡ other_owner seat cell.owner → IsFree cell ⊎ IsOwnedBy seat cell
@@ -114,7 +114,7 @@ pub write-open : {V : Type 0} (cells : List (Cell V)) (seat l : ℕ) (o : Option
     → ForSome (slice_get cells l) (IsOpenTo seat)
 write-open cells seat l o owns none = λ cell at. sym (owns cell at) ∙ none
 
--- What is answered
+-- The answer
 
 answered : Option ℕ → Answer
 answered None = answer.Wrote

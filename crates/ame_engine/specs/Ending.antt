@@ -1,4 +1,4 @@
--- What an engine had at its end, and what that tells.
+-- The state of an engine at its end, and the facts that it shows.
 use Rattle.std.specs.Prelude.{◌≡◌, ℕ, ℤ, ◌<◌, ◌≤◌, ◌++◌, ◌↔◌, List, [], ◌∷◌, map, All, Contains, Option, Some, None, IsSome, option_map, slice_get, if◌then◌else◌}
 use Rattle.ame_term.specs.Tree.{Typ, Val, Tree}
 use Rattle.ame_term.specs.Signature.{Signature}
@@ -18,7 +18,7 @@ use Rattle.ame_protocol.specs.declared.types.Tried.{Tried}
 use Rattle.ame_protocol.specs.Waits.Certificates.{IsCertificate}
 use Rattle.ame_protocol.specs.Waits.Once.{IsNotedOnce}
 use Rattle.ame_protocol.specs.Visits.Opened.{cell_of, stored_in}
-use Rattle.ame_protocol.specs.declared.certificate.Certificate.{Certificate}
+use Rattle.ame_journal.specs.declared.certificate.Certificate.{Certificate}
 use Rattle.ame_protocol.specs.declared.counters.Counters.{Counters}
 use Rattle.ame_protocol.specs.declared.stop.Stop.{Stop}
 use Rattle.ame_machine.specs.RefSorts.{IsRefForm}
@@ -29,8 +29,9 @@ use Rattle.ame_protocol.specs.Event.Counting.{CountsTurns}
 use Rattle.ame_protocol.specs.Event.Lone.{IsUndisturbed}
 use Rattle.ame_protocol.specs.Event.Bounds.{HasBounds}
 
--- The limits and the entries with which it was opened, those that it added, its cells, its output, the events that counted, in all and of
--- each kind, the tries that left no entry, the stop that was kept, and what tells that each member is blocked, where that is the stop.
+-- An end has the limits and the entries with which the engine was opened, the entries that it added, its cells, its output, the number of
+-- turns, the counts of each kind, the attempts that left no entry, the stop that was kept, and the certificates that each member is
+-- blocked, if that is the stop.
 pub record End (V : Type 0) : Type 0 where
   pub limits : Limits
   pub base : List Entry
@@ -57,26 +58,25 @@ end_of core = record {
   certificates = core.certificates;
 }
 
--- What an end shows of its limits and its counts: these are the limits, each turn stands in one count, and the turns are at most as many as
--- they may be.
+-- An end shows its limits and its counts: these are the limits, each turn is in one count, and the turns are at most those of the limits.
 pub record ShowsCounts (limits : Limits) {V : Type 0} (end : End V) : Type 0 where
   pub limited : end.limits ≡ limits
   pub counts : CountsTurns end.turns end.counters
   pub most : end.turns ≤ limits.turns
 
--- each number is below those after it
+-- Each number is below those after it.
 abbrev pub Rise : List ℕ → Type 0
 Rise [] = Unit {0}
 Rise (n ∷ ns) = All (λ k. n < k) ns × Rise ns
 
--- one certificate a member of a state, in order of their numbers, each of which holds in the state
+-- There is one certificate a member of a state, in order of their numbers, and each certificate holds in the state.
 pub record CertifyAll (s : State) (certificates : List Certificate) : Type 0 where
   pub hold : All (λ c. IsCertificate s c.number c.steps c.fresh) certificates
   pub rise : Rise (map (λ c. c.number) certificates)
   pub members : (number : ℕ) → IsSome (at s.members number) ↔ Contains (map (λ c. c.number) certificates) number
   pub some : certificates ≡ [] → ⊥
 
--- a stop has its cause in the state that is left
+-- A stop has its cause in the state that is left.
 pub record HasStopped (limits : Limits) (r : Replayed) {V : Type 0} (end : End V) : Type 0 where
   pub finished : end.stop ≡ Some Stop.Finished → r.state.members ≡ []
   pub blocked : end.stop ≡ Some Stop.Blocked → CertifyAll r.state end.certificates
@@ -85,11 +85,11 @@ pub record HasStopped (limits : Limits) (r : Replayed) {V : Type 0} (end : End V
   pub failed : (device : ℕ) → end.stop ≡ Some (Stop.DeviceFault device) → ComesToCall r device
   pub ends : NotesStop end.stop end.entries
 
--- the sort of a live cell, and the type of what the `ref` form with its number stores, by the list of these types
+-- Returns the sort of a live cell, and the type that the `ref` form with its number stores, by the list of these types.
 abbrev pub type_in : List Typ → Cell Val → Option (Sort × Typ)
 type_in refs cell = if cell.live then option_map (λ t. (cell.sort, t)) (slice_get refs cell.ty.0) else None
 
--- so are the types of locations by their cells
+-- Returns the types of locations by their cells.
 abbrev pub types_in : List Typ → List (Cell Val) → StoreTyping
 types_in refs cells l = type_in refs (cell_of cells l)
 

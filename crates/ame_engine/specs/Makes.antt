@@ -11,7 +11,7 @@ use Rattle.ame_engine.specs.Core.{Core}
 use Rattle.ame_engine.specs.Seen.{parts_of}
 
 module _ {C V M : Type 0} (meaning : Meaning C V M) where
-  -- the state of an engine: all that events change
+  -- Returns the state of an engine: all that events change.
   abbrev pub state_of : Core C V M → State
   state_of core = record { parts = parts_of meaning core; counters = core.counters; stop = core.stop; certificates = core.certificates }
 

@@ -25,15 +25,15 @@ use Rattle.ame_engine.specs.Makes.{state_of}
 use Rattle.ame_engine.specs.declared.resume_fail.ResumeFail.{ResumeFail}
 use Rattle.ame_engine.specs.declared.resume_fail.ResumeFail.TheVariants as fail
 
--- no entry is a note
+-- No entry is a note.
 abbrev pub AreActs : List Entry → Type 0
 AreActs entries = All (λ entry. is_note entry.kind ≡ false) entries
 
--- an engine has cells for the new locations of an entry
+-- An engine has cells for the new locations of an entry.
 abbrev pub IsNear : Entry → Type 0
 IsNear entry = All (λ l. l < most_opened) entry.fresh
 
--- the n-th entry is the first for which it has none
+-- The n-th entry is the first for which an engine has no cells.
 pub record IsFar (base : List Entry) (n : ℕ) : Type 0 where
   pub place : IsPlace base n
   pub before : All IsNear (take (n - 1) base)
@@ -51,25 +51,27 @@ FailsToResume program base fail.NoMemory = Unit {0}
 -- Cells of a replay
 
 module _ {V : Type 0} (same : V → V → Type 0) where
-  -- the cell at a location: what a replay has there, or else a dead copy of the first
+  -- The cell at a location has the content of that location in a replay. If the replay has no such location, it is a dead copy of the first
+  -- cell.
   abbrev pub IsCellOf : Option (Stored V) → Option (Stored V) → Cell V → Type 0
   IsCellOf first (Some stored) cell = cell ≡ made stored.sort stored.number stored.value None
   IsCellOf (Some first) None cell = (v : V) × same first.value v × (cell ≡ record (made first.sort first.number v None) { live = false })
   IsCellOf None None cell = ⊥
 
-  -- these are the cells of a replay, up to its greatest location
+  -- These are the cells of a replay, up to its greatest location.
   pub record AreCellsOf (stored : List (ℕ × Stored V)) (cells : List (Cell V)) : Type 0 where
     pub least : ℕ
     pub each : (l : ℕ) (d : Cell V) → l < length cells → IsCellOf (at stored least) (at stored l) (get_or cells l d)
     pub within : (l : ℕ) (cell : Stored V) → at stored l ≡ Some cell → l < length cells
     pub few : length cells ≤ most_opened
 
--- these are the members of a replay, all of them ready in order of their numbers
+-- These are the members of a replay, all of them ready in order of their numbers.
 pub record AreMembersOf {C M : Type 0} (stage : C → M → MachineView) (code : C) (members : List (ℕ × M)) (pool : Roster M) : Type 0 where
   pub all : pool.members ≡ map (λ member. newcomer member.0 member.1 (stage code member.1).inside) members
   pub ready : AreReady pool
 
--- an engine that goes on from a base has the state to which it leads, with all members ready and each seat idle; nothing is counted
+-- An engine that continues from a base has the state to which the base leads, with all members ready and each seat idle. Nothing is
+-- counted.
 pub record HasResumed {C V M : Type 0} (meaning : Meaning C V M) (limits : Limits) (base : List Entry) (core : Core C V M) : Type 0 where
   pub led : Replayed
   pub replayed : replay (meaning.program core.code) base ≡ Some led

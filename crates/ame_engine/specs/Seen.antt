@@ -9,12 +9,12 @@ use Rattle.ame_protocol.specs.declared.stop.Stop.{Stop}
 use Rattle.ame_engine.specs.Core.{Core}
 use Rattle.ame_machine.specs.Meaning.{Meaning}
 
--- the term for which a machine stands
+-- Returns the term for which a machine stands.
 abbrev pub term_shown : {C M : Type 0} → (C → M → MachineView) → C → M → Tree
 term_shown stage code m = (stage code m).term
 
 module _ {C V M : Type 0} (meaning : Meaning C V M) where
-  -- the plain parts
+  -- Returns the plain parts.
   abbrev pub parts_of : Core C V M → Parts
   parts_of core = record {
     program = meaning.program core.code;

@@ -1,4 +1,4 @@
--- How a seat turns back.
+-- Seats that turn back.
 use Rattle.std.specs.Prelude.{◌≡◌, ℕ}
 use Rattle.ame_store.specs.Cells.{IsOwnedBy}
 use Rattle.ame_rows.specs.Valid.{IsValid}
@@ -13,7 +13,7 @@ use Rattle.ame_engine.specs.declared.engine.turn.Setback.TheVariants as setback
 use Rattle.ame_engine.specs.Core.{Core}
 use Rattle.ame_engine.specs.Makes.{state_of}
 
--- why it turns back, as the event tells it
+-- Returns why it turns back, as the event says it.
 abbrev pub reverse_of : Setback → Reverse
 reverse_of (setback.Conflict l owner) = Reverse.Met l owner
 reverse_of setback.Check = Reverse.Stale Find.Check
@@ -21,7 +21,7 @@ reverse_of setback.Commit = Reverse.Stale Find.Commit
 reverse_of setback.Block = Reverse.Stale Find.Block
 reverse_of setback.Tall = Reverse.Stale Find.Tall
 
--- how this is counted
+-- Returns the counters after the seat has turned back.
 abbrev pub counted_at : Setback → Counters → Counters
 counted_at (setback.Conflict l owner) counters = one_counted Counted.Conflict counters
 counted_at setback.Check counters = one_invalid Counted.Check counters
@@ -30,7 +30,7 @@ counted_at setback.Block counters = one_invalid Counted.Block counters
 counted_at setback.Tall counters = one_invalid Counted.Tall counters
 
 module _ {C V M : Type 0} (meaning : Meaning C V M) where
-  -- it is so: another seat owns the cell, or a logged read isn't valid
+  -- The setback is so: another seat owns the cell, or a logged read isn't valid.
   abbrev pub HasMet : Core C V M → ℕ → Setback → Type 0
   HasMet core seat (setback.Conflict l owner) = IsOwnedBy owner (cell (state_of meaning core) l.0) × (owner ≡ seat → ⊥)
   HasMet core seat _ = IsValid core.memory.cells seat (row_at core.memory.rows seat).reads → ⊥

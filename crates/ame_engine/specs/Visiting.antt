@@ -1,4 +1,4 @@
--- How a seat visits a member that is inside.
+-- Visits of members that are inside.
 use Rattle.std.specs.Prelude.{◌≡◌, ℕ, ◌<◌, ◌||◌, ℤ, true, false, Bool, List, [], Option, Some, None, Ok, Err, length, slice_get}
 use Rattle.std.specs.Option.{ForSome}
 use Rattle.ame_term.specs.Tree.{Val}
@@ -40,13 +40,14 @@ pub record IsVisiting (s : MachineView) : Type 0 where
   pub moved : takes_input s.want ≡ false → 0 < s.steps
   pub short : s.want ≡ Some wants.Tall → ⊥
 
--- whether a machine wants a device
+-- Returns whether a machine wants a device.
 abbrev pub wants_device : Option Wants → Bool
 wants_device (Some (wants.Device device n)) = true
 wants_device _ = false
 
--- Where a visit leaves a machine and a shared memory, with the answer of a device and what the devices tell, by what the machine wants: it
--- is fed what is committed, the location of a new cell, the answer of a device or the unit, or it closes, or it stays where it is.
+-- The machine and the shared memory after a visit, with the answer of a device and the records of the devices, by what the machine wants.
+-- The machine is fed a committed value, the location of a new cell, the answer of a device or the unit, or it closes, or it stays at its
+-- place.
 pub data VisitsTo (s : MachineView) (memory : MemoryView Val) (before : List Told) : Option ℤ → MachineView → MemoryView Val → List Told → Type 0 where
   rests : takes_input s.want ≡ false → VisitsTo s memory before None s memory before
   reads : (l : Loc) (v : Val) (n : MachineView) → s.want ≡ Some (wants.Read l) → committed memory l.0 ≡ Some v → fed_stage v s ≡ Some n
@@ -63,44 +64,44 @@ pub data VisitsTo (s : MachineView) (memory : MemoryView Val) (before : List Tol
   calls : (device : ℕ) (argument answer : ℤ) (n : MachineView) (after : List Told) → s.want ≡ Some (wants.Device device argument)
       → CallsOne before device argument (Ok answer) after → fed_stage (Val.Int answer) s ≡ Some n → VisitsTo s memory before (Some answer) n memory after
 
--- a visit of a member has come to a stage, with this answer of a device and with this memory
+-- A visit of a member has come to a stage, with this answer of a device and with this memory.
 pub record IsVisitTo (parts : Parts) (number : ℕ) (answer : Option ℤ) (n : MachineView) (memory : MemoryView Val) : Type 0 where
   pub place : LocalState
   pub visit : IsVisit parts number n.steps place n.inside memory
   pub shows : without_footprint place ≡ with_answer answer (place_shown n)
 
--- what it makes of the plain parts
+-- Returns the plain parts after such a visit.
 abbrev pub visited_at : ℕ → ℕ → Option ℤ → MachineView → MemoryView Val → Parts → Parts
 visited_at seat number answer n memory parts = has_visited seat number n.steps (with_answer answer (place_shown n)) n.inside memory parts
 
--- the event of such a visit, at the place to which the run has come
+-- Returns the event of such a visit, at the place to which the run has come.
 abbrev pub visits_at : ℕ → Attempt → MachineView → MemoryView Val → LocalState → Event
 visits_at seat attempt n memory = λ place. Event.Visit seat attempt n.steps place n.inside memory
 
--- a machine that settles there stays inside, or outside
+-- A machine that settles there stays inside, or outside.
 abbrev pub SettlesThere : MachineView → Type 0
 SettlesThere s = (tells_leave s.want || s.inside) ≡ s.inside
 
 module _ {V : Type 0} where
-  -- a shared memory once it has changed
+  -- Returns a shared memory after a change.
   abbrev pub changed_by : {W : Type 0} → (V → W) → Change V → MemoryView W → MemoryView W
   changed_by view changes.Stays memory = memory
   changed_by view (changes.Puts l value) memory = put_at l.0 (view value) memory
   changed_by view (changes.Makes sort number value) memory = born sort number (view value) memory
 
-  -- a change can be made: a cell that is written has no owner, and there is a location for a new one
+  -- A change can be made: a cell that is written has no owner, and there is a location for a new cell.
   abbrev pub CanChange : MemoryView V → Change V → Type 0
   CanChange memory changes.Stays = Unit {0}
   CanChange memory (changes.Puts l value) = (l.0 < length memory.cells) × ForSome (slice_get memory.cells l.0) IsFree × ForSome (slice_get memory.cells l.0) CanGrow
   CanChange memory (changes.Makes sort number value) = length memory.cells < 4294967295
 
-  -- the value that it puts in place is good, and a new cell is that of a form
+  -- The value that a change puts in place is good, and a new cell is a cell of a form.
   abbrev pub IsGoodChange : (V → Type 0) → (Sort → ℕ → Type 0) → Change V → Type 0
   IsGoodChange IsGood IsForm changes.Stays = Unit {0}
   IsGoodChange IsGood IsForm (changes.Puts l value) = IsGood value
   IsGoodChange IsGood IsForm (changes.Makes sort number value) = IsGood value × IsForm sort number.0
 
-  -- whether it makes a cell
+  -- Returns whether a change makes a cell.
   abbrev pub makes_cell : Change V → Bool
   makes_cell (changes.Makes sort number value) = true
   makes_cell _ = false
@@ -116,7 +117,7 @@ module _ {C V M : Type 0} (meaning : Meaning C V M) where
     pub lone : makes_cell change ≡ true → (meaning.stage core.code new).spawns ≡ []
 
 module _ {C V M : Type 0} (meaning : Meaning C V M) where
-  -- A seat's member has come home from a visit, from where its machine stood. The visit is one of the replayed state.
+  -- A seat's member has come home from a visit that began at the place of its machine. The visit is a visit of the replayed state.
   pub record HasComeHome (seat number : ℕ) (s : MachineView) (before after : List Told) (old new : Core C V M) : Type 0 where
     pub answer : Option ℤ
     pub comes : MachineView

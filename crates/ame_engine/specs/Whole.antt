@@ -1,4 +1,4 @@
--- What each engine keeps.
+-- The invariant of each engine.
 use Rattle.std.specs.Prelude.{◌≡◌, ℕ, ◌≤◌, Bool, All}
 use Rattle.ame_io.specs.Lines.{lines}
 use Rattle.ame_term.specs.Tree.{Tree}
@@ -16,7 +16,7 @@ use Rattle.ame_machine.specs.RefSorts.{IsRefForm}
 use Rattle.ame_protocol.specs.Event.Sound.{Sound}
 use Rattle.ame_engine.specs.Makes.{state_of}
 
--- the limits of an engine
+-- The limits of an engine are in range.
 pub record AreLimits (limits : Limits) : Type 0 where
   pub some_turns : 1 ≤ limits.turns
   pub turns : limits.turns ≤ 4000000
@@ -26,28 +26,28 @@ pub record AreLimits (limits : Limits) : Type 0 where
   pub seats : limits.seats ≤ 32
 
 module _ {V : Type 0} (IsGood : V → Type 0) where
-  -- each value that an entry would put back is good
+  -- Each value that an entry would put back is good.
   abbrev pub IsGoodUndo : Undo V → Type 0
   IsGoodUndo (Wrote l number old) = IsGood old
   IsGoodUndo (Made l) = Unit {0}
 
-  -- each value of the logs
+  -- Each value of the logs is good.
   pub record IsGoodLog (notes : Log V) : Type 0 where
     pub inputs : All IsGood notes.inputs
     pub undos : All IsGoodUndo notes.undos
 
-  -- each value in a shared memory; and the sort and the number of each cell are those of a form
+  -- Each value in a shared memory is good, and the sort and the number of each cell are those of a form.
   pub record IsGoodMemory (IsForm : Sort → ℕ → Type 0) (memory : MemoryView V) : Type 0 where
     pub cells : All (λ cell. IsGood cell.value) memory.cells
     pub forms : All (λ cell. IsForm cell.sort cell.ty.0) memory.cells
     pub rows : All IsGoodLog memory.rows
 
--- a machine that has made no step, and holds nothing back
+-- Returns the stage of a machine that has made no step, and holds nothing back.
 abbrev pub resting_at : Tree → Bool → MachineView
 resting_at term inside = record (starting_at term) { inside = inside }
 
 module _ {C M : Type 0} (is_machine : C → M → Type 0) (stage : C → M → MachineView) where
-  -- a member's machine is one of the code, and rests
+  -- A member's machine is one of the code, and rests.
   pub record IsAtRest (code : C) (m : Member M) : Type 0 where
     pub machine : is_machine code m.machine
     pub rests : stage code m.machine ≡ resting_at (stage code m.machine).term m.inside
@@ -62,7 +62,7 @@ module _ {C V M : Type 0} (meaning : Meaning C V M) where
     pub members : All (IsAtRest meaning.is_machine meaning.stage core.code) core.pool.members
     pub text : core.text ≡ lines core.output
 
-  -- What each engine keeps besides, which contracts don't see: the list of so many tries has free places for those that may follow.
+  -- Contracts don't see the rest of the invariant: the list of attempts has free places for those that may follow.
   pub record IsEngine (core : Core C V M) (tries capacity : ℕ) : Type 0 where
     pub whole : IsSound core
     pub places : HasPlacesFor core.tasks tries capacity

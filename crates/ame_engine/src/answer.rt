@@ -1,8 +1,8 @@
-//! What the calls of a seat answer.
+//! Answers to the calls of a seat.
 
 use ame_rows::Bad;
 
-/// What a seat is answered that begins.
+/// Answers a seat that is to begin a member.
 #[derive(Drop)]
 pub enum Begin<M> {
     /// It runs this machine, of the oldest ready member that may begin.
@@ -13,7 +13,7 @@ pub enum Begin<M> {
     Stopped,
 }
 
-/// What a check answers.
+/// Answers a check.
 #[derive(Clone, Copy, PartialEq, Eq, Debug)]
 pub enum Checked {
     /// Each read is valid.
@@ -22,7 +22,7 @@ pub enum Checked {
     Invalid(Bad),
 }
 
-/// What an undo answers.
+/// Answers an undo.
 #[derive(Clone, Copy, PartialEq, Eq, Debug)]
 pub enum Undone {
     /// Entries are left.
@@ -31,7 +31,7 @@ pub enum Undone {
     Home,
 }
 
-/// What a write answers.
+/// Answers a write.
 #[derive(Clone, Copy, PartialEq, Eq, Debug)]
 pub enum Wrote {
     /// The value is in place.
@@ -40,19 +40,19 @@ pub enum Wrote {
     Conflict(u32),
 }
 
-/// What is answered where a row has come to its end, or to where it can't go on.
+/// Answers a seat whose row has come to its end, or to a place at which it can't go on.
 #[derive(Clone, Copy, PartialEq, Eq, Debug)]
 pub enum Noted {
-    /// An entry tells it.
+    /// An entry was added for it.
     Noted,
     /// This read is the first that isn't valid.
     Invalid(Bad),
 }
 
-/// What a visit of unprotected code answers.
+/// Answers a visit of unprotected code.
 #[derive(Clone, Copy, PartialEq, Eq, Debug)]
 pub enum Freed {
-    /// An entry tells it, and its member is home.
+    /// An entry was added for it, and its member is home.
     Home,
     /// The device with this number failed, and its member is home as it was begun.
     DeviceFault(u8),

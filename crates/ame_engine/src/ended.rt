@@ -1,14 +1,14 @@
-//! What an engine had at its end.
+//! The end of an engine.
 
 ghost use Rattle.std.specs.Prelude.{◌≡◌, All};
 ghost use Rattle.ame_store.specs.Cells.{IsFree};
 
-use ame_journal::{Entry, Journal};
-use ame_protocol::{Certificate, Counters, Limits, Stop, Tried};
+use ame_journal::{Certificate, Entry, Journal};
+use ame_protocol::{Counters, Limits, Stop, Tried};
 use ame_store::Store;
 use std::marker::Model;
 
-/// What an engine had at its end. Only an engine that was taken apart gives one, and no call changes it.
+/// Holds what an engine had at its end. Only an engine that was taken apart gives one, and no call changes it.
 pub struct Ended<V> {
     pub(crate) limits: Limits,
     pub(crate) base: Journal,
@@ -64,28 +64,28 @@ impl<V> Model for Ended<V> {
 }
 
 impl<V> Ended<V> {
-    /// The limits with which the engine was opened.
+    /// Returns the limits with which the engine was opened.
     pub fn limits(&self) -> &Limits
         ensures { result.now ≡ self.now.limits }
     {
         &self.limits
     }
 
-    /// The entries from which the engine was opened.
+    /// Returns the entries from which the engine was opened.
     pub fn base(&self) -> &[Entry]
         ensures { result.now ≡ self.now.base }
     {
         self.base.entries()
     }
 
-    /// The entries that it added.
+    /// Returns the entries that it added.
     pub fn journal(&self) -> &[Entry]
         ensures { result.now ≡ self.now.entries }
     {
         self.journal.entries()
     }
 
-    /// The cells that it left. None has an owner.
+    /// Returns the cells that it left. None has an owner.
     pub fn store(&self) -> &Store<V>
         ensures cells { result.now ≡ self.now.cells }
         ensures free { All IsFree self.now.cells }
@@ -93,42 +93,42 @@ impl<V> Ended<V> {
         &self.store
     }
 
-    /// What was printed by what was committed.
+    /// Returns the committed output.
     pub fn output(&self) -> &[i64]
         ensures { result.now ≡ self.now.output }
     {
         self.output.as_slice()
     }
 
-    /// The events that counted.
+    /// Returns the number of events that counted.
     pub fn turns(&self) -> u32
         ensures { result ≡ self.now.turns }
     {
         self.turns
     }
 
-    /// The events that counted, by their kinds.
+    /// Returns the events that counted, by their kinds.
     pub fn counters(&self) -> &Counters
         ensures { result.now ≡ self.now.counters }
     {
         &self.counters
     }
 
-    /// The tries that left no entry.
+    /// Returns the attempts that left no entry.
     pub fn tried(&self) -> &[Tried]
         ensures { result.now ≡ self.now.tried }
     {
         self.tried.as_slice()
     }
 
-    /// The stop that was kept.
+    /// Returns the stop that was kept.
     pub fn stopped(&self) -> Option<Stop>
         ensures { result ≡ self.now.stop }
     {
         self.stop
     }
 
-    /// What tells that each member is blocked, in order of their numbers, where that is the stop; else nothing.
+    /// Returns the certificates that each member is blocked, in order of their numbers, if that is the stop. Otherwise returns none.
     pub fn certificates(&self) -> &[Certificate]
         ensures { result.now ≡ self.now.certificates }
     {

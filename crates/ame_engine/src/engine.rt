@@ -6,13 +6,15 @@ ghost use Rattle.ame_rows.specs.Committed.{committed as committed_at};
 ghost use Rattle.ame_protocol.specs.Engine.Parts.{task_at};
 ghost use Rattle.ame_protocol.specs.Event.Lone.{IsUndisturbed};
 
-use ame_journal::{Entry, Journal};
+use ame_journal::{Certificate, Entry, Journal};
 use ame_machine::Runner;
 use ame_pool::Pool;
-use ame_protocol::{Certificate, Counters, Limits, Stop, Task, Tried};
+use ame_protocol::{Counters, Limits, Stop, Task, Tried};
 use ame_rows::Memory;
 use ame_store::Cell;
 use ame_term::Loc;
+use ledger::Ledger;
+pub use resume::cells_of;
 use std::marker::Model;
 use std::sync::Arc;
 
@@ -25,6 +27,7 @@ mod commit;
 mod finish;
 mod free;
 mod laws;
+mod ledger;
 mod notes;
 mod read;
 mod resume;
@@ -36,8 +39,8 @@ mod turn;
 mod undo;
 mod write;
 
-/// The engine that seats share: cells that they write in place, with what each would undo; the members and their machines;
-/// and the journal of what was committed. A seat's own machine is not in it, so that seats can run beside each other.
+/// Holds the state that seats share: the cells that they write in place, with the undo log of each seat; the members and their machines;
+/// and the journal of committed work. The machine that a seat runs is not in it, so that seats can run in parallel.
 pub struct Engine<M: Runner>
 where
     M::Code: Drop,
@@ -45,12 +48,10 @@ where
     code: Arc<M::Code>,
     limits: Limits,
     base: Journal,
-    journal: Journal,
+    ledger: Ledger,
     memory: Memory<M::Value>,
     tasks: Vec<Task>,
     pool: Pool<M>,
-    output: Vec<i64>,
-    text: Vec<u8>,
     next: u64,
     turns: u32,
     counters: Counters,
@@ -68,12 +69,10 @@ where
             code: _,
             limits: _,
             base: _,
-            journal: _,
+            ledger: _,
             memory: _,
             tasks: _,
             pool: _,
-            output: _,
-            text: _,
             next: _,
             turns: _,
             counters: _,
@@ -100,12 +99,12 @@ where
       code = arc_value e.code;
       limits = e.limits;
       base = e.base.entries;
-      entries = e.journal.entries;
+      entries = e.ledger.journal.entries;
       memory = e.memory;
       tasks = e.tasks.items;
       pool = e.pool;
-      output = e.output.items;
-      text = e.text.items;
+      output = e.ledger.output.items;
+      text = e.ledger.text.items;
       next = e.next;
       turns = e.turns;
       counters = e.counters;
@@ -118,12 +117,12 @@ where
       code = arc_value e.code;
       limits = e.limits;
       base = e.base.entries;
-      entries = e.journal.entries;
+      entries = e.ledger.journal.entries;
       memory = e.memory;
       tasks = e.tasks.items;
       pool = e.pool;
-      output = e.output.items;
-      text = e.text.items;
+      output = e.ledger.output.items;
+      text = e.ledger.text.items;
       next = e.next;
       turns = e.turns;
       counters = e.counters;
@@ -137,21 +136,21 @@ impl<M: Runner> Engine<M>
 where
     M::Code: Drop,
 {
-    /// The limits.
+    /// Returns the limits.
     pub fn limits(&self) -> &Limits
         ensures { result.now ≡ self.now.limits }
     {
         &self.limits
     }
 
-    /// The events that counted.
+    /// Returns the number of events that counted.
     pub fn turns(&self) -> u32
         ensures { result ≡ self.now.turns }
     {
         self.turns
     }
 
-    /// The events that counted, by their kinds. With one seat there was no conflict, and no read that isn't valid.
+    /// Returns the events that counted, by their kinds. With one seat there was no conflict, and no read that isn't valid.
     pub fn counters(&self) -> &Counters
         ensures told { result.now ≡ self.now.counters }
         ensures lone { self.now.limits.seats ≡ 1 → IsUndisturbed self.now.counters }
@@ -159,57 +158,58 @@ where
         &self.counters
     }
 
-    /// The stop that is kept.
+    /// Returns the stop that is kept.
     pub fn stopped(&self) -> Option<Stop>
         ensures { result ≡ self.now.stop }
     {
         self.stop
     }
 
-    /// What tells that each member is blocked, in order of their numbers, where that is the stop that is kept; else nothing.
+    /// Returns the certificates that each member is blocked, in order of their numbers, if that is the stop that is kept. Otherwise returns
+    /// none.
     pub fn certificates(&self) -> &[Certificate]
         ensures { result.now ≡ self.now.certificates }
     {
         self.certificates.as_slice()
     }
 
-    /// The entries from which it was opened.
+    /// Returns the entries from which it was opened.
     pub fn base(&self) -> &[Entry]
         ensures { result.now ≡ self.now.base }
     {
         self.base.entries()
     }
 
-    /// The entries that it added.
+    /// Returns the entries that it added.
     pub fn journal(&self) -> &[Entry]
         ensures { result.now ≡ self.now.entries }
     {
-        self.journal.entries()
+        self.ledger.journal.entries()
     }
 
-    /// What was printed by what was committed.
+    /// Returns the committed output.
     pub fn output(&self) -> &[i64]
         ensures { result.now ≡ self.now.output }
     {
-        self.output.as_slice()
+        self.ledger.output.as_slice()
     }
 
-    /// The lines of the output.
+    /// Returns the lines of the output.
     pub fn text(&self) -> &[u8]
         ensures text { result.now ≡ self.now.text }
         ensures lines { result.now ≡ lines self.now.output }
     {
-        self.text.as_slice()
+        self.ledger.text.as_slice()
     }
 
-    /// The tries that left no entry.
+    /// Returns the attempts that left no entry.
     pub fn tried(&self) -> &[Tried]
         ensures { result.now ≡ self.now.tried }
     {
         self.tried.as_slice()
     }
 
-    /// What a seat is at.
+    /// Returns the task of a seat.
     pub fn task(&self, seat: u32) -> Task
         requires { seat < self.now.limits.seats }
         ensures { result ≡ task_at self.now.tasks seat }
@@ -217,14 +217,14 @@ where
         self.tasks[seat as usize]
     }
 
-    /// The number of cells.
+    /// Returns the number of cells.
     pub fn cells(&self) -> u32
         ensures { result ≡ length self.now.memory.cells }
     {
         self.memory.cells().len()
     }
 
-    /// The cell at a location.
+    /// Returns the cell at a location.
     pub fn cell(&self, l: Loc) -> &Cell<M::Value>
         requires { l.0 < length self.now.memory.cells }
         ensures { Some result.now ≡ slice_get self.now.memory.cells l.0 }
@@ -232,7 +232,7 @@ where
         self.memory.cells().cell(l)
     }
 
-    /// The committed value of a location: where a seat owns the cell, the one that it found there.
+    /// Returns the committed value of a location. If a seat owns the cell, it is the value that the seat found there.
     pub fn committed(&self, l: Loc) -> Option<&M::Value>
         ensures { option_copied result ≡ committed_at self.now.memory l.0 }
     {

@@ -1,11 +1,11 @@
-//! What a seat meets that begins.
+//! The member or the stop that a seat meets when it is to begin a member.
 
 ghost use Rattle.std.specs.Prelude.{◌≡◌};
 ghost use Rattle.ame_engine.specs.Begins as spec;
 
 use ame_pool::Oldest;
 
-/// What a seat meets that begins.
+/// Says what a seat meets when it is to begin a member.
 #[derive(Clone, Copy, PartialEq, Eq, Debug)]
 pub enum Pick {
     /// A stop is kept.
@@ -22,7 +22,7 @@ pub enum Pick {
     Member(u64),
 }
 
-/// What a seat meets where no stop is kept, by whether the turns are used up.
+/// Returns what a seat meets if no stop is kept, by whether the turns are used up.
 pub(crate) fn pick_by(spent: bool, oldest: Oldest) -> Pick
     ensures { result ≡ spec.pick_by spent oldest }
 {

@@ -30,7 +30,7 @@ use Rattle.ame_weak.specs.Weak.{Weak, weak_start, weak_run}
 use Rattle.ame_weak.specs.Straight.{outset}
 use Rattle.ame_weak.specs.Tries.{HoldsIn}
 use Rattle.ame_weak.specs.declared.tries.Try.{Try}
-use Rattle.ame_weak.specs.declared.tries.Certificate.{Certificate}
+use Rattle.ame_journal.specs.declared.certificate.Certificate.{Certificate}
 use Rattle.ame_weak.proofs.StraightLemmas.{past_all, follow-labels, ends-strong, begun-followed}
 use Rattle.ame_runner.specs.Play.{PlayView, HasMade}
 use Rattle.ame_runner.specs.Choices.{candidates}

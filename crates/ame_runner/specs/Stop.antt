@@ -12,7 +12,7 @@ use Rattle.ame_strong.specs.declared.next_label.Next.TheVariants as next
 use Rattle.ame_shell.specs.Heard.{HaveHeard, NoneFailed, OneFailed}
 use Rattle.ame_weak.specs.Weak.{Weak}
 use Rattle.ame_weak.specs.Straight.{straight}
-use Rattle.ame_weak.specs.declared.tries.Certificate.{Certificate}
+use Rattle.ame_journal.specs.declared.certificate.Certificate.{Certificate}
 use Rattle.ame_runner.specs.Choices.{candidates}
 use Rattle.ame_runner.specs.Tall.{IsTallIn}
 use Rattle.ame_runner.specs.Run.{RunView, IsRunning, CanBeEnded}

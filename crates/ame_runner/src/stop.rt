@@ -1,8 +1,8 @@
 //! Why a run stops, and what is told of it.
 
-use ame_journal::Entry;
+use ame_journal::{Certificate, Entry};
 use ame_term::Label;
-use ame_weak::{Certificate, Try};
+use ame_weak::Try;
 
 /// Why a run stops.
 #[derive(Drop)]

@@ -11,8 +11,8 @@ use crate::choices::candidates;
 use crate::run::Run;
 use crate::stop::WeakStop;
 use crate::trial::{Outcome, note_of, try_member};
+use ame_journal::Certificate;
 use ame_term::{Loc, NoMemory, push};
-use ame_weak::Certificate;
 use std::alloc::Global;
 
 impl<'a> Run<'a> {

@@ -1,4 +1,4 @@
--- What the counts of an end tell of its entries, and what follows the event that keeps a stop.
+-- The counts of an end by its entries, and what follows the event that keeps a stop.
 use Rattle.std.proofs.Common.{◌≡◌, ℕ, ◌+◌, ◌≤◌, ◌⊎◌, inl, inr, Bool, true, false, List, [], ◌∷◌, ◌++◌, Option, Some, None, refl, sym, ap, ◌∙◌, subst, arith}
 use Rattle.std.specs.Prelude.{cond, is_some, All}
 use Rattle.std.specs.List.{sum_by, count_by}
@@ -22,7 +22,7 @@ use Rattle.ame_shell.specs.Ran.{IsStart, IsRanBy}
 
 -- Kinds of entries and of events
 
--- whether an entry tells a row that was committed
+-- whether an entry is of a row that was committed
 abbrev pub is_ran : EntryKind → Bool
 is_ran EntryKind.Ran = true
 is_ran _ = false
@@ -78,7 +78,7 @@ abbrev pub one_fault : Option Stop → ℕ
 one_fault (Some (Stop.DeviceFault device)) = 1
 one_fault _ = 0
 
--- What each event counts
+-- The counts of events
 
 undo-frees : (stopped : Bool) (c : Counters) → (one_undone stopped c).frees ≡ c.frees
 undo-frees true c = refl
@@ -323,10 +323,10 @@ faults-exact (e ∷ es) s end going run only =
         let stop : one_fault end.stop ≡ one_fault (stop_after e None) = ap one_fault (later.1 ∙ own.1) in
         omega (arith, sum, none, here, stop)
 
--- What an end shows
+-- The counts of an end
 
--- The visits are those that the entries tell, and one more if a device failed in one, which is the stop then. Commits were asked for at
--- least as often as the entries tell one, and cells were made as often as the events tell it.
+-- The visits are those of the entries, and one more if a device failed in one, which is the stop then. There are at least as many calls
+-- of commit as entries of it, and cells were made as often as the events say.
 pub record CountsKinds (events : List Event) (entries : List Entry) (counters : Counters) (stop : Option Stop) : Type 0 where
   pub frees : counters.frees ≡ frees_in entries + count_by is_refusal events
   pub fails : (count_by is_refusal events ≡ 0) ⊎ ((count_by is_refusal events ≡ 1) × (one_fault stop ≡ 1))

@@ -1,4 +1,4 @@
--- What a seat did, from what its event was asked with.
+-- The outcome of a seat's turn, from what its event was asked with.
 use Rattle.std.proofs.Common.{◌≡◌, ◌≢◌, ℕ, ◌<◌, ◌≤◌, ◌⊎◌, inl, inr, Bool, true, false, List, [], Option, Some, None, Result, Ok, Err, refl, sym, ap, ◌∙◌, subst, arith, length-set}
 use Rattle.std.specs.Prelude.{IfOk, OnOk, ℤ, length, is_some, if◌then◌else◌}
 use Rattle.ame_term.specs.Tree.{Val}
@@ -52,7 +52,7 @@ told-ok {A} {E} r a P is h = subst (λ (x : Result A E). IfOk x P) is h
 pub told-on : {A E : Type 0} (r : Result A E) (a : A) (P : Type 0) → r ≡ Ok a → OnOk r P → P
 told-on {A} {E} r a P is h = subst (λ (x : Result A E). OnOk x P) is h
 
--- What the engine is asked for
+-- Requests of the engine
 
 module _ {C V M : Type 0} (core : Core C V M) (s : MachineView) (going : core.stop ≡ None) (left : core.turns < core.limits.turns) where
   pub goes-from : IsToGoOn core (Some s) s
@@ -76,7 +76,7 @@ module _ {C V M : Type 0} (core : Core C V M) (s : MachineView) (going : core.st
   pub visits-from : s.inside ≡ true → (s.want ≡ Some wants.Tall → ⊥) → IsToVisit core (Some s) s
   visits-from inside short = record { goes = goes-from; inside = inside; short = short }
 
--- What machines never want
+-- Wants that machines never have
 
 -- whether only unprotected code wants this
 abbrev pub is_of_visits : Wants → Bool
@@ -121,7 +121,7 @@ module _ (s : MachineView) (sound : IsSoundStage s) where
   never-outside wants.Tall is outside only = cc
   never-outside wants.OutOfFuel is outside only = cc
 
-  -- a machine of protected code that is ready and goes on, whose slice isn't full where that matters, wants something that is served
+  -- a machine of protected code that is ready and goes on, whose slice isn't full if that matters, wants something that is served
   pub never-unserved : (slice : ℕ) (want : Wants) → s.want ≡ Some want → want ≢ wants.Done → want ≢ wants.Leave → (want ≢ wants.Tall → s.inside ≡ false)
       → IsReady slice s → (waits_for_check (Some want) ≡ true → s.since < slice) → IsUnserved want → ⊥
   never-unserved slice want is undone stays outside ready early (inl done) = undone done
@@ -176,7 +176,7 @@ module _ {C V M : Type 0} (meaning : Meaning C V M)
           absurd
           (none-invalid seat core.memory.cells bad (subst (λ (reads : List ReadNote). IsFirstBad core.memory.cells seat reads bad) none first))
 
-  -- memory was lacking: the engine is as before but for that stop
+  -- memory ran out: the engine is as before but for that stop
   module _ (hand : Option MachineView) (mid new : Core C V M) (told : List Told) (outcome : Outcome) (same : mid ≡ core) (going : core.stop ≡ None)
       (halts : mid.stop ≡ None → Makes meaning (Event.Halt Stop.NoMemory) mid new) (is : new ≡ stopped_by Stop.NoMemory mid) (lacks : outcome ≡ Outcome.Lacked) where
     pub lacked : IsDone meaning seat hand core new told told outcome

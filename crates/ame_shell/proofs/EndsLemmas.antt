@@ -1,4 +1,4 @@
--- Machines of other seats are where they were after what ends a seat's work.
+-- Machines of other seats stay after the end of a seat's work.
 use Rattle.std.proofs.Common.{◌≡◌, ◌≢◌, ℕ, ◌<◌, ◌≤◌, ◌⊎◌, inl, inr, Bool, true, false, List, [], ◌∷◌, Option, Some, None, refl, sym, ap, ◌∙◌, arith}
 use Rattle.std.proofs.lemmas.Bool.{cases_lt}
 use Rattle.std.proofs.lemmas.Bool.Decides.{nat_tests}
@@ -26,7 +26,7 @@ use Rattle.ame_protocol.proofs.Engine.StepLemmas.{task_else}
 use Rattle.ame_protocol.proofs.Engine.HomeLemmas.{busy-of}
 use Rattle.ame_protocol.proofs.Engine.GrowthLemmas.{keeps-on, keeps-same, woken-keeps, woken-free, newcomers-keep}
 use Rattle.ame_protocol.proofs.Engine.CommitLemmas.{free-next}
-use Rattle.ame_engine.specs.AtWork.{IsOnSeat}
+use Rattle.ame_shell.specs.Low.{IsLowOnSeat}
 use Rattle.ame_shell.proofs.OthersLemmas.{stays-on}
 
 -- Undos
@@ -71,8 +71,8 @@ term-home Reason.Stopped n number pool =
     ap (λ (o : Option Tree). unwrap_or o unit_tree)
     (machines-stay n (at_home false) pool.members (home n false pool).members (found_altered n (at_home false) (λ _. refl) pool.members) (λ _. refl) (λ _. refl) number)
 
-module _ (parts : Parts) (seat other : ℕ) (s : MachineView) (apart : other ≢ seat) (on : IsOnSeat parts other s) where
-  pub undone-others : (attempt : Attempt) (reason : Reason) → IsOnSeat (has_undone seat attempt reason parts) other s
+module _ (parts : Parts) (seat other : ℕ) (s : MachineView) (apart : other ≢ seat) (on : IsLowOnSeat parts other s) where
+  pub undone-others : (attempt : Attempt) (reason : Reason) → IsLowOnSeat (has_undone seat attempt reason parts) other s
   undone-others attempt reason =
       let mid = with_task seat (Task.Undoing attempt reason) (with_memory (undone_last seat parts.memory) parts) in
       stays-on parts (has_undone seat attempt reason parts) other s
@@ -80,7 +80,7 @@ module _ (parts : Parts) (seat other : ℕ) (s : MachineView) (apart : other ≢
       (ap (λ (d : MemoryView Val). row_at d.rows other) (turn-memory mid) ∙ row_set_else parts.memory.rows seat other _ apart)
       (λ a e. ap (λ (pool : Roster Tree). term_at pool a.tried.number) (turn-pool mid)) on
 
-  pub gone-others : (attempt : Attempt) (reason : Reason) → IsOnSeat (has_gone_home seat attempt reason parts) other s
+  pub gone-others : (attempt : Attempt) (reason : Reason) → IsLowOnSeat (has_gone_home seat attempt reason parts) other s
   gone-others attempt reason =
       let mid = with_task seat Task.Idle (record parts {
         memory = undone_last seat parts.memory;
@@ -125,7 +125,7 @@ member-below parts stands other a has =
     by (inr above) m found =
         absurd (let clash : ◌≡◌ {A = Option (Member Tree)} None (Some m) = sym (free-next parts stands a.tried.number above) ∙ found in cc)
 
-module _ (parts : Parts) (stands : Simulates parts) (seat other : ℕ) (s : MachineView) (apart : other ≢ seat) (on : IsOnSeat parts other s)
+module _ (parts : Parts) (stands : Simulates parts) (seat other : ℕ) (s : MachineView) (apart : other ≢ seat) (on : IsLowOnSeat parts other s)
     (attempt : Attempt) (task : task_at parts.tasks seat ≡ Task.Running attempt) (steps : ℕ) (p : LocalState) (ls : List ℕ) where
   abbrev woken_pool : Roster Tree
   woken_pool = woken_for ls parts.pool
@@ -154,13 +154,13 @@ module _ (parts : Parts) (stands : Simulates parts) (seat other : ℕ) (s : Mach
         (keeps-same later_pool pool i same)) in
         ap (λ (o : Option Tree). unwrap_or o unit_tree) k.machine
 
-  pub ended-others : IsOnSeat (has_ended seat attempt.tried.number steps p ls parts) other s
+  pub ended-others : IsLowOnSeat (has_ended seat attempt.tried.number steps p ls parts) other s
   ended-others =
       stays-on parts (has_ended seat attempt.tried.number steps p ls parts) other s (task_else parts.tasks seat Task.Idle other apart)
       (row_set_else parts.memory.rows seat other no_log apart)
       (λ a has. term-kept a has (removed attempt.tried.number later_pool) (except-else attempt.tried.number a.tried.number later_pool.members (not-its a has))) on
 
-  pub left-others : IsOnSeat (has_left seat attempt.tried.number steps p ls parts) other s
+  pub left-others : IsLowOnSeat (has_left seat attempt.tried.number steps p ls parts) other s
   left-others =
       stays-on parts (has_left seat attempt.tried.number steps p ls parts) other s (task_else parts.tasks seat Task.Idle other apart)
       (row_set_else parts.memory.rows seat other no_log apart)

@@ -1,5 +1,5 @@
--- What a seat has at hand after its event.
-use Rattle.std.proofs.Common.{◌≡◌, ℕ, ◌<◌, ◌≤◌, ◌⊎◌, inl, inr, Bool, true, false, List, Some, refl, ap, ◌∙◌}
+-- A seat's work in flight after its event.
+use Rattle.std.proofs.Common.{◌≡◌, ℕ, ◌<◌, ◌≤◌, ◌⊎◌, inl, inr, Bool, true, false, List, Some, refl, sym, ap, ◌∙◌, subst, arith}
 use Rattle.std.specs.Prelude.{is_some}
 use Rattle.std.proofs.lemmas.Bool.{cases_lt}
 use Rattle.ame_term.specs.Tree.{Val}
@@ -7,8 +7,9 @@ use Rattle.ame_term.specs.Act.{Act}
 use Rattle.ame_term.specs.declared.types.Sort.{Sort}
 use Rattle.ame_term.specs.declared.types.TyNo.{TyNo}
 use Rattle.ame_journal.specs.Replay.{redex_act}
-use Rattle.ame_machine.specs.Run.Local.{LocalState}
-use Rattle.ame_machine.specs.MachineView.{MachineView}
+use Rattle.ame_machine.specs.Run.Local.{LocalState, begun_with}
+use Rattle.ame_machine.specs.MachineView.{MachineView, running_side}
+use Rattle.ame_machine.proofs.MoveLemmas.{low-none}
 use Rattle.ame_machine.specs.Need.{Need, need_of}
 use Rattle.ame_machine.specs.Input.{value_set, value_to_set}
 use Rattle.ame_machine.specs.Comes.{HasNextAct}
@@ -16,27 +17,30 @@ use Rattle.ame_machine.proofs.NeedLemmas.{comes_as}
 use Rattle.ame_protocol.specs.declared.types.Attempt.{Attempt}
 use Rattle.ame_protocol.specs.declared.types.Reason.{Reason}
 use Rattle.ame_protocol.specs.declared.types.Task.{Task}
-use Rattle.ame_protocol.specs.Engine.Parts.{Parts, task_at, attempt_of, working}
+use Rattle.ame_protocol.specs.Engine.Parts.{Parts, task_at, attempt_of, term_at, working}
 use Rattle.ame_protocol.specs.Engine.Events.{has_turned_back, with_memory, with_task, with_try, brought_home, has_undone, has_gone_home}
 use Rattle.ame_protocol.proofs.Engine.StepLemmas.{seat_within, task_here}
 use Rattle.ame_rows.specs.LettingGo.{undone_last}
 use Rattle.ame_protocol.specs.Waits.Noted.{has_noted}
 use Rattle.ame_protocol.specs.Visits.Stops.{told_task, has_been_cut, has_grown_tall}
 use Rattle.ame_protocol.specs.Visits.Visit.{has_visited, has_been_refused}
-use Rattle.ame_rows.specs.MemoryView.{MemoryView}
-use Rattle.ame_protocol.specs.declared.certificate.Certificate.{Certificate}
+use Rattle.ame_rows.specs.MemoryView.{MemoryView, row_at}
+use Rattle.ame_journal.specs.declared.certificate.Certificate.{Certificate}
 use Rattle.ame_protocol.specs.declared.counters.Counters.{Counters}
 use Rattle.ame_engine.specs.declared.pick.Pick.{Pick}
 use Rattle.ame_protocol.specs.declared.stop.Stop.{Stop}
 use Rattle.ame_engine.specs.declared.answer.Begin.TheVariants as answer
+use Rattle.ame_engine.specs.AtWork.{IsOn}
 use Rattle.ame_engine.specs.Core.{Core}
 use Rattle.ame_engine.specs.Seen.{parts_of, MakesEvent, MakesLastEvent}
 use Rattle.ame_engine.specs.Begins.{Answers}
 use Rattle.ame_engine.specs.Stops.{stopped_by, blocked_by}
 use Rattle.ame_engine.specs.Committing.{ended_at, left_at}
+use Rattle.ame_engine.specs.Whole.{resting_at}
 use Rattle.ame_protocol.specs.Event.Undoing.{is_undoing}
 use Rattle.ame_engine.proofs.ReadLemmas.{runs-as}
 use Rattle.ame_shell.specs.declared.work.Work.{Work}
+use Rattle.ame_shell.specs.Low.{MachineGoesLow}
 use Rattle.ame_shell.specs.Work.{CanUndo, IsAtWork, Fits}
 use Rattle.ame_shell.specs.Outcomes.{StopsBy}
 use Rattle.ame_shell.proofs.OutcomeRows.{working-busy}
@@ -207,7 +211,7 @@ module _ {C V M : Type 0} (meaning : Meaning C V M)
   pub at-work-busy : (m : M) → IsAtWork meaning old seat m → is_some (attempt_of (task_at old.tasks seat)) ≡ true
   at-work-busy m at = working-busy (task_at old.tasks seat) at.on.stands.attempt at.on.stands.has
 
-  -- memory was lacking, and the engine is as before but for the stop
+  -- memory ran out, and the engine is as before but for the stop
   module _ (mid : Core C V M) (same : mid ≡ old) (is : new ≡ stopped_by Stop.NoMemory mid) where
     pub lacked-done : new ≡ stopped_by Stop.NoMemory old
     lacked-done = is ∙ ap (stopped_by Stop.NoMemory) same
@@ -219,3 +223,15 @@ module _ {C V M : Type 0} (meaning : Meaning C V M)
   pub running : (m : M) (at : IsAtWork meaning old seat m) → (meaning.stage old.code m).inside ≡ false
       → task_at old.tasks seat ≡ Task.Running at.on.stands.attempt
   running m at outside = runs-as parts seat (meaning.stage old.code m) at.on.stands outside
+
+-- it has just begun
+pub begun-fits : {C V M : Type 0} (meaning : Meaning C V M) (core : Core C V M) (seat : ℕ) (m : M) → IsOn meaning core seat m
+    → meaning.stage core.code m ≡ resting_at (meaning.stage core.code m).term (meaning.stage core.code m).inside → IsAtWork meaning core seat m
+begun-fits meaning core seat m on rests =
+    let s = meaning.stage core.code m in
+    let steps : s.steps ≡ 0 = ap (λ (x : MachineView). x.steps) rests in
+    record {
+      on = on;
+      within = let since : s.since ≡ 0 = ap (λ (x : MachineView). x.since) rests in omega (arith, since);
+      low = subst (MachineGoesLow (parts_of meaning core) seat on.stands.attempt s) (sym steps) (low-none (running_side s) (begun_with (term_at (parts_of meaning core).pool on.stands.attempt.tried.number) (row_at (parts_of meaning core).memory.rows seat).inputs));
+    }

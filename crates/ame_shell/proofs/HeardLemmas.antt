@@ -1,4 +1,4 @@
--- What devices have heard, as the journal grows.
+-- The calls that devices have heard, as the journal grows.
 use Rattle.std.proofs.Common.{◌≡◌, ℕ, ◌==◌, ◌≤◌, Bool, true, false, List, [], ◌∷◌, ◌++◌, Option, Some, None, Ok, append_assoc, append-nil, refl, sym, ap, ◌∙◌, subst, arith, length-append}
 use Rattle.std.specs.Prelude.{ℤ, length, drop, if◌then◌else◌}
 use Rattle.std.proofs.lemmas.Bool.{eqb-true, eqb-false}
@@ -20,7 +20,7 @@ none-more : (heard : Option (List Heard)) → and_more heard [] ≡ heard
 none-more None = refl
 none-more (Some calls) = ap (λ (xs : List Heard). Some xs) (append-nil calls)
 
--- one call more behind others
+-- one call more after others
 one-behind : (heard : Option (List Heard)) (calls : List (ℤ × ℤ)) (argument answer : ℤ)
     → one_more (and_more heard (answered_all calls)) (answered argument answer) ≡ and_more heard (answered_all (calls ++ (argument, answer) ∷ []))
 one-behind None calls argument answer = refl
@@ -28,7 +28,7 @@ one-behind (Some xs) calls argument answer =
     ap (λ (ys : List Heard). Some ys) (append_assoc xs (answered_all calls) (answered argument answer ∷ []))
     ∙ ap (λ (ys : List Heard). Some (xs ++ ys)) (sym (map-append (λ (call : ℤ × ℤ). answered call.0 call.1) calls ((argument, answer) ∷ [])))
 
--- Calls behind a base
+-- Calls after a base
 
 module _ (k : ℕ) where
   -- a journal makes all calls that its front makes
@@ -52,7 +52,7 @@ module _ (k : ℕ) where
         let calls = device_calls k program base in
         ap (λ (es : List Entry). drop (length calls) (device_calls k program es)) (append-nil base) ∙ drop_all (length calls) calls (omega arith)
 
-    -- calls behind those of a longer journal
+    -- calls after those of a longer journal
     more-added : (old new : List Entry) (calls : List (ℤ × ℤ)) → device_calls k program (base ++ new) ≡ device_calls k program (base ++ old) ++ calls
         → added_calls k program base new ≡ added_calls k program base old ++ calls
     more-added old new calls is =
@@ -78,7 +78,7 @@ module _ (program : Tree) (base : List Entry) (opened : List Told) where
         ∙ none-more (told_at opened k).heard);
   }
 
-  -- the journal tells the same calls
+  -- the journal has the same calls
   pub heard-silent : (old new : List Entry) (now : List Told) → ((k : ℕ) → calls_of k new ≡ calls_of k old) → Hears old now → Hears new now
   heard-silent old new now same h = record {
     count = h.count;
@@ -90,7 +90,7 @@ module _ (program : Tree) (base : List Entry) (opened : List Told) where
       → ((k : ℕ) → (told_at after k).heard ≡ (told_at now k).heard) → Hears entries now → Hears entries after
   heard-failed entries now after count same h = record { count = count ∙ h.count; heard = λ k. same k ∙ h.heard k }
 
-  -- a device answered, and the journal tells it
+  -- a device answered, and the journal has it
   module _ (old new : List Entry) (now after : List Told) (device : ℕ) (argument answer : ℤ) (called : CallsOne now device argument (Ok answer) after)
       (more : (k : ℕ) → calls_of k new ≡ calls_of k old ++ (if device == k then (argument, answer) ∷ [] else []))
       (h : Hears old now) where

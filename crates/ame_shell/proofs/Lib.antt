@@ -1,3 +1,5 @@
+pub mod LowLemmas
+pub mod WorkLemmas
 pub mod OutcomeRows
 pub mod FedLemmas
 pub mod OthersLemmas
@@ -16,6 +18,7 @@ pub mod VisitLemmas
 pub mod StopLemmas
 pub mod OutcomeLemmas
 pub mod SendLemmas
+pub mod EventLemmas
 pub mod RanLemmas
 pub mod TurnLemmas
 pub mod CountLemmas

@@ -1,4 +1,4 @@
--- What the events of a seat leave of an engine and its devices.
+-- The effect of a seat's events on an engine and its devices.
 use Rattle.std.proofs.Common.{◌≡◌, ℕ, ◌<◌, inl, inr, Bool, true, false, List, [], ◌∷◌, ◌++◌, Option, Some, None, append_assoc, refl, sym, ap, ◌∙◌, subst}
 use Rattle.std.specs.Prelude.{ℤ, is_some, unwrap_or, if◌then◌else◌}
 use Rattle.std.proofs.lemmas.List.Elements.{All-push}
@@ -24,7 +24,7 @@ use Rattle.ame_protocol.specs.Visits.Stops.{note_entry, has_been_cut, has_grown_
 use Rattle.ame_protocol.proofs.Visits.CallLemmas.{silent-entry}
 use Rattle.ame_protocol.specs.declared.counters.Counters.{Counters}
 use Rattle.ame_engine.specs.declared.pick.Pick.{Pick}
-use Rattle.ame_protocol.specs.declared.certificate.Certificate.{Certificate}
+use Rattle.ame_journal.specs.declared.certificate.Certificate.{Certificate}
 use Rattle.ame_protocol.specs.declared.stop.Stop.{Stop}
 use Rattle.ame_engine.specs.AtWork.{IsOnSeat}
 use Rattle.ame_engine.specs.Begins.{pick_of}
@@ -51,7 +51,7 @@ use Rattle.ame_shell.proofs.StopLemmas.{is_quiet, GoesQuietly, stops-by, quiet-f
 use Rattle.ame_shell.proofs.VisitLemmas.{visit-heard}
 use Rattle.ame_machine.specs.Meaning.{Meaning}
 
--- a journal grows by one entry of this seat that tells no answer, or not at all
+-- a journal grows by one entry of this seat that has no answer, or not at all
 pub data Adds (seat : ℕ) (old new : List Entry) : Type 0 where
   nothing : new ≡ old → Adds seat old new
   one : (entry : Entry) → new ≡ old ++ entry ∷ [] → entry.seat ≡ seat → entry.answer ≡ None → Adds seat old new
@@ -110,7 +110,7 @@ module _ {C V M : Type 0} (meaning : Meaning C V M) where
   abbrev parts : Core C V M → Parts
   parts core = parts_of meaning core
 
-  -- an event of which devices are told nothing
+  -- an event that calls no device
   pub record IsRecorded (seat : ℕ) (old new : Core C V M) : Type 0 where
     pub code : new.code ≡ old.code
     pub limits : new.limits ≡ old.limits
@@ -241,7 +241,7 @@ module _ {C V M : Type 0} (meaning : Meaning C V M) where
       outcome-silent Outcome.CameHome e f h = cc
       outcome-silent (Outcome.DeviceFailed device) e f h = cc
 
-  -- Devices have heard what the journal tells
+  -- Devices have heard what the journal says
 
   module _ (seat : ℕ) (old new : Core C V M) (stands : Simulates (parts old)) (within : seat < old.limits.seats) (opening : Opening C) where
     heard-adds : (told : List Told) → new.code ≡ old.code → new.base ≡ old.base → Adds seat old.entries new.entries
@@ -397,7 +397,7 @@ module _ {C V M : Type 0} (meaning : Meaning C V M) where
           let its = at-hand e.0 e.1.goes.met in
           refused-opened e.0 its.0 its.1 e.1.inside e.2 e.3 before after o e.1.goes.going device e.4
 
-  -- What is to be sent then
+  -- Lines to be sent
 
   -- lines may have come, and no stop was kept
   pub record HasMore (old new : Core C V M) : Type 0 where

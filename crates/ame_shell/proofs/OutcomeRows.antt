@@ -1,4 +1,4 @@
--- What a outcome tells, spelled out: what its event makes of the parts, and how it is counted.
+-- The rows of outcomes, spelled out: what its event makes of the parts, and how it is counted.
 use Rattle.std.proofs.Common.{◌≡◌, ℕ, ◌≤◌, ◌<◌, ◌⊎◌, inl, inr, Bool, true, false, List, length, Option, Some, None, refl, sym, ap, ◌∙◌, subst}
 use Rattle.std.specs.Prelude.{is_some, cond, unwrap_or}
 use Rattle.std.proofs.lemmas.List.{length-map}
@@ -82,7 +82,7 @@ module _ {C V M : Type 0} (meaning : Meaning C V M) (seat : ℕ)
     pub has : attempt_of (task_at old.tasks seat) ≡ Some attempt
     pub event : MakesCounted (one_undone (is_some old.stop)) becomes
 
-  -- a note tells where the machine of a seat is cut off, whose reads are valid
+  -- a note names the place at which a seat's machine is cut off, whose reads are valid
   pub record CutsAt (s : MachineView) : Type 0 where
     pub attempt : Attempt
     pub has : working (task_at old.tasks seat) ≡ Some attempt
@@ -94,7 +94,7 @@ module _ {C V M : Type 0} (meaning : Meaning C V M) (seat : ℕ)
   Spends None = new ≡ stopped_by Stop.Spent old
   Spends (Some s) = CutsAt s ⊎ ((AreAllValid old seat → ⊥) × (new ≡ stopped_by Stop.Spent old))
 
-  -- the event that a seat made, with what devices told before and after
+  -- the event that a seat made, with what devices showed before and after
   abbrev pub Row : List Told → List Told → Outcome → Type 0
   Row before after Outcome.Began =
       (number : ℕ) × Meets meaning seat hand old new before after (Pick.Member number) × MakesCounted (one_counted Counted.Begin) (has_begun seat number)
@@ -151,7 +151,7 @@ module _ {C V M : Type 0} (meaning : Meaning C V M) (seat : ℕ)
     pub event : Row before after outcome
     pub quiet : is_visit outcome ≡ false → after ≡ before
 
--- Each outcome tells its row
+-- Each outcome has its row
 
 -- what is at work is an attempt
 pub working-busy : (t : Task) (a : Attempt) → working t ≡ Some a → is_some (attempt_of t) ≡ true

@@ -1,4 +1,4 @@
--- What a run tells that is over.
+-- A run that is over.
 use Rattle.std.proofs.Common.{◌≡◌, ℕ, ◌<◌, List, [], length, Option, Some, None, append-nil, inl, inr, refl, sym, ap, subst}
 use Rattle.std.specs.Prelude.{ℤ, is_some, unwrap_or, false}
 use Rattle.std.proofs.lemmas.List.Elements.{All-nil}
@@ -43,7 +43,7 @@ module _ {C V M : Type 0} (meaning : Meaning C V M) where
   not-stopped None e = refl
   not-stopped (Some why) e = cc
 
-  -- where nothing was run yet nothing was heard, and no device failed
+  -- if nothing was run yet nothing was heard, and no device failed
   fresh-opened : (opening : Opening C) (core : Core C V M) → core.code ≡ opening.code → core.limits ≡ opening.limits → core.base ≡ opening.base
       → core.entries ≡ [] → core.stop ≡ None → IsOpenedSo meaning.program opening core opening.ends.told
   fresh-opened opening core code limits base none going = record {
@@ -57,7 +57,7 @@ module _ {C V M : Type 0} (meaning : Meaning C V M) where
     failed = subst (λ (o : Option Stop). HaveFailed o opening.ends.told opening.ends.told) (sym going) (λ k. refl);
   }
 
-  -- where an engine has just started nothing was sent or heard
+  -- if an engine has just started nothing was sent or heard
   pub shell-starts : (core : Core C V M) (code : C) (limits : Limits) (ends : Ends) → core.code ≡ code
       → parts core ≡ started (meaning.program code) (meaning.signature code) limits 0
       → state_of meaning core ≡ started_state (meaning.program code) (meaning.signature code) limits
@@ -77,7 +77,7 @@ module _ {C V M : Type 0} (meaning : Meaning C V M) where
         ran = ran-starts meaning (record { code = code; limits = limits; base = []; ends = ends }) core (inl (refl, fresh));
       }
 
-  -- where an engine was opened from a base and nothing was run yet, and then the lines of the base were sent
+  -- if an engine was opened from a base and nothing was run yet, and then the lines of the base were sent
   module _ (core : Core C V M) (ends : Ends) (none : core.entries ≡ []) (going : core.stop ≡ None)
       (resumed : HasResumed meaning core.limits core.base core) where
     abbrev opening : Opening C
@@ -99,7 +99,7 @@ module _ {C V M : Type 0} (meaning : Meaning C V M) where
               (ran-starts meaning opening core (inr (resumed-start meaning core.limits core.base core resumed)));
         }
 
-  -- where memory is lacking nothing else changes
+  -- if memory runs out nothing else changes
   pub lacking-keeps : (opening : Opening C) (shell : ShellView C V M) → IsShell meaning opening shell
       → IsShell meaning opening (record shell { core = stopped_by Stop.NoMemory shell.core })
   lacking-keeps opening shell h =

@@ -7,9 +7,11 @@ use Rattle.ame_device.specs.declared.told.Told.{Told}
 use Rattle.ame_journal.specs.declared.entry.Entry.{Entry}
 use Rattle.ame_machine.specs.MachineView.{MachineView}
 use Rattle.ame_machine.specs.Meaning.{Meaning}
+use Rattle.ame_machine.specs.Sound.{IsSoundStage}
 use Rattle.ame_protocol.specs.declared.stop.Stop.{Stop}
 use Rattle.ame_protocol.specs.declared.types.Limits.{Limits}
 use Rattle.ame_protocol.specs.Engine.Parts.{Parts}
+use Rattle.ame_protocol.specs.Engine.Simulates.{Simulates}
 use Rattle.ame_protocol.specs.Engine.Events.{has_stopped}
 use Rattle.ame_protocol.specs.Event.After.{after}
 use Rattle.ame_protocol.specs.Event.Causes.{IsCause, certificates_for, is_from_outside}
@@ -26,12 +28,14 @@ use Rattle.ame_engine.specs.Seen.{parts_of}
 use Rattle.ame_engine.specs.Stops.{stopped_by}
 use Rattle.ame_engine.proofs.HaltLemmas.{outside-apart}
 use Rattle.ame_shell.specs.declared.work.Outcome.{Outcome}
+use Rattle.ame_shell.specs.Low.{GoesLowBy, IsLowOnSeat}
 use Rattle.ame_shell.specs.Outcomes.{IsMade}
 use Rattle.ame_shell.specs.Ran.{GoesOnFrom, IsStart, IsRanBy}
 use Rattle.ame_shell.specs.Shell.{ShellView, Opening, HasRun}
 use Rattle.ame_shell.specs.Turned.{HasFlushed}
+use Rattle.ame_shell.proofs.EventLemmas.{low-more, outcome-low}
 
--- While no stop is kept nothing tells of blocked members
+-- While no stop is kept no certificate is there
 
 event-going : (e : Event) (s : State) → (after e s).stop ≡ None → s.stop ≡ None
 event-going (Event.Refuse seat attempt device) s none = absurd (cc)
@@ -52,7 +56,7 @@ run-untold : (es : List Event) (s end : State) → Follows s es end → end.stop
 run-untold [] s end run none = ap (λ (x : State). x.certificates) run
 run-untold (e ∷ es) s end run none = run-untold es (after e s) end run.1 none ∙ event-untold e s (run-going es (after e s) end run.1 none)
 
--- A start has no entry yet, and nothing tells of blocked members
+-- A start has no entry yet, and no certificate is there
 
 module _ (program : Tree) (signature : Signature) (limits : Limits) (base : List Entry) (s : State) where
   start-untold : IsStart program signature limits base s → s.certificates ≡ []
@@ -80,23 +84,25 @@ module _ {C V M : Type 0} (meaning : Meaning C V M) (opening : Opening C) where
   Ran core = HasRun meaning opening core
 
   -- one event more
-  pub ran-more : (old new : Core C V M) (e : Event) → Makes meaning e old new → Ran old → Ran new
-  ran-more old new e m h = record {
+  pub ran-more : (old new : Core C V M) (e : Event) → Makes meaning e old new → GoesLowBy e (parts_of meaning old) → Ran old → Ran new
+  ran-more old new e m low h = record {
     start = h.start;
     starts = h.starts;
     events = h.events ++ e ∷ [];
     follows =
         subst (λ (s : State). Follows h.start (h.events ++ e ∷ []) s) (sym m.state)
         (follows-more h.events h.start (state_of meaning old) e h.follows m.may);
+    low = low-more h.events h.start (state_of meaning old) e h.follows h.low low;
   }
 
-  -- none more, where the engine has the same state
+  -- none more, if the engine has the same state
   ran-still : (old new : Core C V M) → state_of meaning old ≡ state_of meaning new → Ran old → Ran new
   ran-still old new same h = record {
     start = h.start;
     starts = h.starts;
     events = h.events;
     follows = subst (λ (s : State). Follows h.start h.events s) same h.follows;
+    low = h.low;
   }
 
   pub ran-same : (old new : Core C V M) → new ≡ old → Ran old → Ran new
@@ -123,12 +129,12 @@ module _ {C V M : Type 0} (meaning : Meaning C V M) (opening : Opening C) where
         state = λ i. record { parts = has_stopped parts; counters = core.counters; stop = stop-is i; certificates = told-is i };
       }
 
-  -- where a stop is kept already, that one stays
+  -- if a stop is kept already, that one stays
   pub ran-stopped : (why : Stop) → is_from_outside why ≡ true → (core : Core C V M) → Ran core → Ran (stopped_by why core)
   ran-stopped why outside core h = by core.stop refl
     where
       by : (o : Option Stop) → core.stop ≡ o → Ran (stopped_by why core)
-      by None none = ran-more core (stopped_by why core) (Event.Halt why) (outside-makes why outside core none h) h
+      by None none = ran-more core (stopped_by why core) (Event.Halt why) (outside-makes why outside core none h) tt h
       by (Some kept) is =
           let same : core.stop ≡ Some (unwrap_or core.stop why) = is ∙ sym (ap (λ (o : Option Stop). Some (unwrap_or o why)) is) in
           ran-still core (stopped_by why core) (ap (λ (o : Option Stop). state_of meaning (record core { stop = o })) same) h
@@ -139,19 +145,21 @@ module _ {C V M : Type 0} (meaning : Meaning C V M) (opening : Opening C) where
   ran-flushed old new (HasFlushed.fails gone first short risen same sent) h =
       ran-same (stopped_by Stop.WriteFault old.core) new.core same (ran-stopped Stop.WriteFault refl old.core h)
 
-  -- a seat makes its event, or none where it waits or finds a kept stop
-  pub ran-made : (seat : ℕ) (hand : Option MachineView) (old new : Core C V M) (before after : List Told) (outcome : Outcome)
-      → IsMade meaning seat hand old new before after outcome → Ran old → Ran new
-  ran-made seat hand old new before after _ (IsMade.makes outcome e tells m) h = ran-more old new e m h
-  ran-made seat hand old new before after _ (IsMade.waits meets same) h = ran-same old new same h
-  ran-made seat hand old new before after _ (IsMade.rests meets same) h = ran-same old new same h
+  -- a seat makes its event, or none if it waits or finds a kept stop
+  module _ (seat : ℕ) (hand : Option MachineView) (old new : Core C V M) (before after : List Told) (stands : Simulates (parts_of meaning old))
+      (at-hand : (s : MachineView) → hand ≡ Some s → IsLowOnSeat (parts_of meaning old) seat s × IsSoundStage s) where
+    pub ran-made : (outcome : Outcome) → IsMade meaning seat hand old new before after outcome → Ran old → Ran new
+    ran-made _ (IsMade.makes outcome e tells m) h =
+        ran-more old new e m (outcome-low meaning seat hand old new before after stands at-hand outcome e tells) h
+    ran-made _ (IsMade.waits meets same) h = ran-same old new same h
+    ran-made _ (IsMade.rests meets same) h = ran-same old new same h
 
   -- At first there is no event.
   pub ran-starts : (core : Core C V M) → IsStart (meaning.program opening.code) (meaning.signature opening.code) opening.limits opening.base (state_of meaning core)
       → Ran core
-  ran-starts core starts = record { start = state_of meaning core; starts = starts; events = []; follows = refl }
+  ran-starts core starts = record { start = state_of meaning core; starts = starts; events = []; follows = refl; low = tt }
 
-  -- At the end the events tell the entries.
+  -- At the end the events name the entries.
   pub ran-over : (core : Core C V M) → core.code ≡ opening.code → core.limits ≡ opening.limits → Ran core
       → IsRanBy (meaning.program core.code) (meaning.signature core.code) core.limits opening.base (meaning.value_of core.code) (end_of core)
   ran-over core code limits h = record {
@@ -162,6 +170,7 @@ module _ {C V M : Type 0} (meaning : Meaning C V M) (opening : Opening C) where
     events = h.events;
     last = state_of meaning core;
     follows = h.follows;
+    low = h.low;
     told =
         sym (run-tells h.events h.start (state_of meaning core) h.follows
         ∙ ap (λ (xs : List Entry). xs ++ entries_along h.events)

@@ -26,6 +26,7 @@ use Rattle.ame_shell.specs.declared.work.Work.TheVariants as work
 use Rattle.ame_shell.specs.Work.{IsAtWork, Fits}
 use Rattle.ame_shell.specs.Ready.{CanGoOn, CanBePrepared, IsPrepared}
 use Rattle.ame_shell.proofs.FedLemmas.{advanced-on}
+use Rattle.ame_shell.proofs.RestLemmas.{at-work}
 use Rattle.ame_machine.specs.Meaning.{Meaning}
 
 module _ (parts : Parts) (stands : Simulates parts) (seat : ℕ) (s : MachineView) (on : IsOnSeat parts seat s) where
@@ -80,7 +81,7 @@ module _ {C V M : Type 0} (meaning : Meaning C V M)
       let few = few-steps parts stands seat (meaning.stage core.code m) at.on.stands slice turns at.within in
       record { machine = at.on.machine; runs = runs-on parts stands seat (meaning.stage core.code m) at.on.stands; few = omega (arith, few) }
 
-  -- what a seat has at hand can be prepared
+  -- a seat's work in flight can be prepared
   pub can-prepare : (w : Work M) → Simulates parts → Fits meaning core seat w → core.limits.slice < 2 ^ 32
       → core.limits.turns < 2 ^ 32 → CanBePrepared meaning.is_machine meaning.stage core.code core.limits.slice w
   can-prepare work.Idle stands fits slice turns = tt
@@ -96,10 +97,9 @@ module _ {C V M : Type 0} (meaning : Meaning C V M)
   prepared-fits (work.Running m) work.Idle fits is = absurd is
   prepared-fits (work.Running m) (work.Running n) fits is =
       let ran : AdvancesWithin (core.limits.slice - (meaning.stage core.code m).since) (meaning.stage core.code m) (meaning.stage core.code n) = is.ran in
-      record {
-        on = record { machine = is.machine; stands = advanced-on parts seat (meaning.stage core.code m) fits.on.stands ran.made (meaning.stage core.code n) ran.advances };
-        within = let before = fits.within in let more = ran.within in let since = ran.advances.since in omega (arith, before, more, since);
-      }
+      at-work meaning core seat n is.machine
+      (advanced-on parts seat (meaning.stage core.code m) (record { on = fits.on.stands; low = fits.low }) (core.limits.slice - (meaning.stage core.code m).since) (meaning.stage core.code n) ran)
+      (let before = fits.within in let more = ran.within in let since = ran.advances.since in omega (arith, before, more, since))
   prepared-fits (work.Running m) work.Undoing fits is = absurd is
   prepared-fits work.Undoing work.Idle fits is = absurd is
   prepared-fits work.Undoing (work.Running n) fits is = absurd is

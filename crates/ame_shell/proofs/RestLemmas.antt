@@ -1,4 +1,4 @@
--- What an event of a seat leaves: code, limits, and what the other seats have at hand.
+-- An event of a seat leaves code, limits, and the work in flight of the other seats.
 use Rattle.std.proofs.Common.{◌≡◌, ◌≢◌, ℕ, ◌≤◌, inl, inr, true, false, List, Option, Some, None, refl, sym, ap, ◌∙◌, subst}
 use Rattle.std.specs.Prelude.{is_some}
 use Rattle.ame_pool.specs.Keeps.{is_inside_at}
@@ -17,14 +17,13 @@ use Rattle.ame_protocol.proofs.Engine.StepLemmas.{task_else}
 use Rattle.ame_protocol.specs.Waits.Noted.{has_noted}
 use Rattle.ame_protocol.specs.Visits.Stops.{told_task, has_been_cut, has_grown_tall}
 use Rattle.ame_protocol.specs.Visits.Visit.{has_been_refused}
-use Rattle.ame_protocol.specs.declared.certificate.Certificate.{Certificate}
+use Rattle.ame_journal.specs.declared.certificate.Certificate.{Certificate}
 use Rattle.ame_protocol.specs.declared.counters.Counters.{Counters}
 use Rattle.ame_engine.specs.declared.pick.Pick.{Pick}
 use Rattle.ame_protocol.specs.declared.stop.Stop.{Stop}
 use Rattle.ame_protocol.specs.Event.Counting.{Counted, one_counted, one_invalid, one_undone}
 use Rattle.ame_engine.specs.Core.{Core}
 use Rattle.ame_engine.specs.Seen.{parts_of, MakesEvent, MakesLastEvent}
-use Rattle.ame_engine.specs.AtWork.{IsOnSeat}
 use Rattle.ame_engine.specs.Stops.{stopped_by, blocked_by}
 use Rattle.ame_engine.specs.Committing.{ended_at, left_at, owned_places}
 use Rattle.ame_protocol.specs.Event.Undoing.{is_undoing, reason_to_undo}
@@ -32,7 +31,8 @@ use Rattle.ame_engine.specs.Visiting.{visited_at, HasComeHome}
 use Rattle.ame_shell.specs.declared.work.Outcome.{Outcome}
 use Rattle.ame_shell.specs.declared.work.Work.{Work}
 use Rattle.ame_shell.specs.declared.work.Work.TheVariants as work
-use Rattle.ame_shell.specs.Work.{Fits}
+use Rattle.ame_shell.specs.Low.{IsLowOnSeat}
+use Rattle.ame_shell.specs.Work.{IsAtWork, Fits}
 use Rattle.ame_shell.specs.Outcomes.{StopsBy, IsMade}
 use Rattle.ame_shell.proofs.OutcomeRows.{TurnsBack, Spends, Row, row-made}
 use Rattle.ame_shell.proofs.OthersLemmas.{begun-others, read-others, written-others, allocated-others, checked-others, back-others}
@@ -47,20 +47,21 @@ module _ {C V M : Type 0} (meaning : Meaning C V M) where
   abbrev FitsIn : Core C V M → ℕ → Work M → Type 0
   FitsIn core seat work = Fits meaning core seat work
 
-  -- what a seat has at hand fits, where its task and the run of its member stay
+  -- a machine is at work, by its stage
+  pub at-work : (core : Core C V M) (seat : ℕ) (m : M) → meaning.is_machine core.code m → IsLowOnSeat (parts core) seat (meaning.stage core.code m)
+      → (meaning.stage core.code m).since ≤ core.limits.slice → IsAtWork meaning core seat m
+  at-work core seat m machine there within = record { on = record { machine = machine; stands = there.on }; within = within; low = there.low }
+
+  -- a seat's work in flight fits, if its task and the run of its member stay
   fits-on : (old new : Core C V M) (other : ℕ) → new.code ≡ old.code → new.limits ≡ old.limits → task_at new.tasks other ≡ task_at old.tasks other
-      → (is_some new.stop ≡ false → is_some old.stop ≡ false) → ((s : MachineView) → IsOnSeat (parts old) other s → IsOnSeat (parts new) other s)
+      → (is_some new.stop ≡ false → is_some old.stop ≡ false) → ((s : MachineView) → IsLowOnSeat (parts old) other s → IsLowOnSeat (parts new) other s)
       → (rest : Work M) → FitsIn old other rest → FitsIn new other rest
   fits-on old new other code limits task stop on work.Idle h = task ∙ h
-  fits-on old new other code limits task stop on (work.Running m) h = record {
-    on = record {
-      machine = subst (λ (c : C). meaning.is_machine c m) (sym code) h.on.machine;
-      stands = subst (λ (c : C). IsOnSeat (parts new) other (meaning.stage c m)) (sym code) (on (meaning.stage old.code m) h.on.stands);
-    };
-    within =
-        subst (λ (c : C). (meaning.stage c m).since ≤ new.limits.slice) (sym code)
-        (subst (λ (l : Limits). (meaning.stage old.code m).since ≤ l.slice) (sym limits) h.within);
-  }
+  fits-on old new other code limits task stop on (work.Running m) h =
+      at-work new other m (subst (λ (c : C). meaning.is_machine c m) (sym code) h.on.machine)
+      (subst (λ (c : C). IsLowOnSeat (parts new) other (meaning.stage c m)) (sym code) (on (meaning.stage old.code m) (record { on = h.on.stands; low = h.low })))
+      (subst (λ (c : C). (meaning.stage c m).since ≤ new.limits.slice) (sym code)
+      (subst (λ (l : Limits). (meaning.stage old.code m).since ≤ l.slice) (sym limits) h.within))
   fits-on old new other code limits task stop on work.Undoing h = record {
     busy = ap (λ (t : Task). is_some (attempt_of t)) task ∙ h.busy;
     undoes = λ going. ap is_undoing task ∙ h.undoes (stop going);
@@ -73,7 +74,7 @@ module _ {C V M : Type 0} (meaning : Meaning C V M) where
       stopped : (rest : Work M) → FitsIn old other rest → FitsIn (stopped_by why old) other rest
       stopped rest h =
           fits-on old (stopped_by why old) other refl refl refl (λ going. absurd (cc))
-          (λ s on. record { attempt = on.attempt; has = on.has; side = on.side; run = on.run; since = on.since }) rest h
+          (λ s x. record { on = record { attempt = x.on.attempt; has = x.on.has; side = x.on.side; run = x.on.run; since = x.on.since }; low = x.low }) rest h
 
   by-blocked : (old new : Core C V M) (other : ℕ) (certificates : List Certificate) → new ≡ blocked_by certificates old → (rest : Work M)
       → FitsIn old other rest → FitsIn new other rest
@@ -82,9 +83,9 @@ module _ {C V M : Type 0} (meaning : Meaning C V M) where
       blocked : (rest : Work M) → FitsIn old other rest → FitsIn (blocked_by certificates old) other rest
       blocked rest h =
           fits-on old (blocked_by certificates old) other refl refl refl (λ going. absurd (cc))
-          (λ s on. record { attempt = on.attempt; has = on.has; side = on.side; run = on.run; since = on.since }) rest h
+          (λ s x. record { on = record { attempt = x.on.attempt; has = x.on.has; side = x.on.side; run = x.on.run; since = x.on.since }; low = x.low }) rest h
 
-  -- What is left to the rest
+  -- An event leaves code, limits and the other seats
   pub record Leaves (seat : ℕ) (old new : Core C V M) : Type 0 where
     pub code : new.code ≡ old.code
     pub limits : new.limits ≡ old.limits
@@ -94,7 +95,7 @@ module _ {C V M : Type 0} (meaning : Meaning C V M) where
     -- an event leaves tasks of other seats, and their runs
     abbrev IsApart : (Parts → Parts) → Type 0
     IsApart event = (other : ℕ) → other ≢ seat
-        → (task_at (event (parts old)).tasks other ≡ task_at old.tasks other) × ((s : MachineView) → IsOnSeat (parts old) other s → IsOnSeat (event (parts old)) other s)
+        → (task_at (event (parts old)).tasks other ≡ task_at old.tasks other) × ((s : MachineView) → IsLowOnSeat (parts old) other s → IsLowOnSeat (event (parts old)) other s)
 
     by-event : (counts : Counters → Counters) (event : Parts → Parts) → MakesEvent meaning counts event old new
         → (event (parts old)).limits ≡ old.limits → IsApart event → Leaves seat old new
@@ -106,7 +107,7 @@ module _ {C V M : Type 0} (meaning : Meaning C V M) where
           others = λ other rest else fits.
               fits-on old new other makes.code same (ap (λ (p : Parts). task_at p.tasks other) makes.parts ∙ (apart other else).0)
               (λ going. ap is_some (sym makes.stop) ∙ going)
-              (λ s x. subst (λ (p : Parts). IsOnSeat p other s) (sym makes.parts) ((apart other else).1 s x)) rest fits;
+              (λ s x. subst (λ (p : Parts). IsLowOnSeat p other s) (sym makes.parts) ((apart other else).1 s x)) rest fits;
         }
 
     by-last : (why : Stop) (counts : Counters → Counters) (event : Parts → Parts) → MakesLastEvent meaning why counts event old new
@@ -119,7 +120,7 @@ module _ {C V M : Type 0} (meaning : Meaning C V M) where
           others = λ other rest else fits.
               fits-on old new other makes.code same (ap (λ (p : Parts). task_at p.tasks other) makes.parts ∙ (apart other else).0)
               (λ going. absurd (let stops : is_some new.stop ≡ true = ap is_some makes.stop in cc))
-              (λ s x. subst (λ (p : Parts). IsOnSeat p other s) (sym makes.parts) ((apart other else).1 s x)) rest fits;
+              (λ s x. subst (λ (p : Parts). IsLowOnSeat p other s) (sym makes.parts) ((apart other else).1 s x)) rest fits;
         }
 
     same-leaves : new ≡ old → Leaves seat old new

@@ -1,4 +1,4 @@
--- What a turn keeps of a shell.
+-- A turn keeps a shell.
 use Rattle.std.proofs.Common.{◌≡◌, ℕ, ◌+◌, ◌<◌, ◌≤◌, ◌⊎◌, inl, inr, Bool, true, false, List, length, Option, Some, None, refl, sym, ap, ◌∙◌, subst, arith}
 use Rattle.std.specs.Prelude.{ℤ, unwrap_or}
 use Rattle.std.specs.Option.{option_or}
@@ -11,7 +11,7 @@ use Rattle.ame_machine.specs.Sound.{IsSoundStage}
 use Rattle.ame_protocol.specs.Engine.Parts.{Parts}
 use Rattle.ame_protocol.specs.Engine.Simulates.{Simulates}
 use Rattle.ame_protocol.specs.declared.stop.Stop.{Stop}
-use Rattle.ame_engine.specs.AtWork.{IsOnSeat}
+use Rattle.ame_shell.specs.Low.{IsLowOnSeat}
 use Rattle.ame_engine.specs.Core.{Core}
 use Rattle.ame_engine.specs.Seen.{parts_of}
 use Rattle.ame_engine.specs.Stops.{stopped_by}
@@ -31,13 +31,13 @@ use Rattle.ame_shell.proofs.SendLemmas.{flush-keeps}
 use Rattle.ame_shell.proofs.RanLemmas.{ran-made, ran-flushed}
 use Rattle.ame_machine.specs.Meaning.{Meaning}
 
--- an outcome of which no lines come is no visit, or a device failed
+-- an outcome that leaves no lines is no visit, or a device failed
 no-lines : (outcome : Outcome) → is_to_flush outcome ≡ false → (is_visit outcome ≡ false) ⊎ ((device : ℕ) × (outcome ≡ Outcome.DeviceFailed device))
 no-lines (Outcome.DeviceFailed device) e = inr (device, refl)
 no-lines Outcome.CameHome e = cc
 no-lines _ e = inl refl
 
--- the member before a turn, else the one after it
+-- the member before a turn, or otherwise the one after it
 pub or-told : (before after : Option ℕ) → option_or before after ≡ member_told before after
 or-told None after = refl
 or-told (Some number) after = refl
@@ -51,7 +51,7 @@ module _ {C V M : Type 0} (meaning : Meaning C V M) where
   abbrev parts : Core C V M → Parts
   parts core = parts_of meaning core
 
-  -- after an outcome of which no lines come
+  -- after an outcome that leaves no lines
   calm : (seat : ℕ) (hand : Option MachineView) (old new : Core C V M) (before after : List Told) (outcome : Outcome) → is_to_flush outcome ≡ false
       → HasRow meaning seat hand old new before after outcome → (opened now : Ends) (sent : ℕ)
       → IsSentSince opened now old.stop sent (lines old.output) → IsSentSince opened now new.stop sent (lines new.output)
@@ -95,12 +95,13 @@ module _ {C V M : Type 0} (meaning : Meaning C V M) where
             (subst (λ (s : Option Stop). HaveFailed s opening.ends.told told) going o.failed);
       })
 
-  -- a machine at hand is where its run stands
+  -- a machine in flight stands on its run
   pub hand-stands : (sound : (code : C) (m : M) → meaning.is_machine code m → IsSoundStage (meaning.stage code m)) (core : Core C V M) (seat : ℕ) (w : Work M)
-      → Fits meaning core seat w → (s : MachineView) → stage_at meaning.stage core.code w ≡ Some s → IsOnSeat (parts core) seat s × IsSoundStage s
+      → Fits meaning core seat w → (s : MachineView) → stage_at meaning.stage core.code w ≡ Some s → IsLowOnSeat (parts core) seat s × IsSoundStage s
   hand-stands sound core seat (work.Running m) fits s e =
       let is : meaning.stage core.code m ≡ s = ap (λ (o : Option MachineView). unwrap_or o s) e in
-      subst (λ (x : MachineView). IsOnSeat (parts core) seat x × IsSoundStage x) is (fits.on.stands, sound core.code m fits.on.machine)
+      subst (λ (x : MachineView). IsLowOnSeat (parts core) seat x × IsSoundStage x) is
+      (record { on = fits.on.stands; low = fits.low }, sound core.code m fits.on.machine)
   hand-stands sound core seat work.Idle fits s e = cc
   hand-stands sound core seat work.Undoing fits s e = cc
 
@@ -112,15 +113,15 @@ module _ {C V M : Type 0} (meaning : Meaning C V M) where
     row = rowed meaning seat hand old.core turned.core old.ends.told new.ends.told outcome turned.done
 
     pub turn-keeps : (opening : Opening C) → Simulates (parts old.core) → seat < old.core.limits.seats
-        → ((s : MachineView) → hand ≡ Some s → IsOnSeat (parts old.core) seat s × IsSoundStage s) → IsShell meaning opening old → IsShell meaning opening new
+        → ((s : MachineView) → hand ≡ Some s → IsLowOnSeat (parts old.core) seat s × IsSoundStage s) → IsShell meaning opening old → IsShell meaning opening new
     turn-keeps opening stands within at-hand h = by (is_to_flush outcome) refl
       where
         opened : IsOpenedSo meaning.program opening mid.core new.ends.told
-        opened = outcome-opened meaning seat old.core turned.core stands within opening hand at-hand old.ends.told new.ends.told outcome row h.opened
+        opened = outcome-opened meaning seat old.core turned.core stands within opening hand (λ s met. let its = at-hand s met in (its.0.on, its.1)) old.ends.told new.ends.told outcome row h.opened
 
         ran : HasRun meaning opening mid.core
         ran =
-            ran-made meaning opening seat hand old.core turned.core old.ends.told new.ends.told outcome turned.done.event h.ran
+            ran-made meaning opening seat hand old.core turned.core old.ends.told new.ends.told stands at-hand outcome turned.done.event h.ran
 
         flushed : is_to_flush outcome ≡ true → IsShell meaning opening new
         flushed e =
@@ -151,7 +152,7 @@ module _ {C V M : Type 0} (meaning : Meaning C V M) where
         by true e = flushed e
         by false e = stayed e
 
-  -- What a seat has at hand fits still once lines are sent.
+  -- A seat's work in flight fits still once lines are sent.
   pub flushed-fits : (old new : ShellView C V M) → HasFlushed old new → (other : ℕ) (rest : Work M) → Fits meaning old.core other rest
       → Fits meaning new.core other rest
   flushed-fits old new (HasFlushed.sends appended stays same sent) other rest fits =
@@ -173,6 +174,7 @@ module _ {C V M : Type 0} (meaning : Meaning C V M) where
           machine = fits.on.machine;
         };
         within = fits.within;
+        low = fits.low;
       }
       stopped work.Undoing fits = record { busy = fits.busy; undoes = λ e. cc }
 
@@ -213,7 +215,7 @@ module _ {C V M : Type 0} (meaning : Meaning C V M) where
           stays = λ e. subst (λ (x : Ends). new ≡ acted x) is (stays e);
         }
 
-  -- no line is taken back
+  -- no line is lost
   still-sent : (seat : ℕ) (hand : Option MachineView) (old new : Core C V M) (before after : List Told) (outcome : Outcome)
       → HasRow meaning seat hand old new before after outcome → (sent : ℕ) → sent ≤ length (lines old.output) → sent ≤ length (lines new.output)
   still-sent seat hand old new before after outcome h sent within = by (is_to_flush outcome) refl

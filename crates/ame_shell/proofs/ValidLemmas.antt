@@ -1,4 +1,4 @@
--- Whether each read of a seat is valid can be told.
+-- Each read of a seat is valid, or a first one isn't.
 use Rattle.std.proofs.Common.{◌≡◌, ℕ, ◌+◌, ◌%◌, ◌⊎◌, inl, inr, Bool, true, false, List, [], ◌∷◌, ◌++◌, Option, Some, None, refl}
 use Rattle.std.specs.Prelude.{MatchOption, IsSomeAnd, slice_get}
 use Rattle.std.proofs.lemmas.List.Elements.{All-nil, All-cons, All-head, All-tail}
@@ -47,7 +47,7 @@ module _ {V : Type 0} (seat : ℕ) where
       by (inl first) (inr bad) = inr (λ all. bad (All-tail (IsValidRead cells seat) note notes all))
       by (inr bad) rest = inr (λ all. bad (All-head (IsValidRead cells seat) note notes all))
 
-  -- where nothing was read, no read is invalid
+  -- if nothing was read, no read is invalid
   pub none-invalid : (cells : List (Cell V)) (bad : Bad) → IsFirstBad cells seat [] bad → ⊥
   none-invalid cells bad first = by first.before first.log
     where

@@ -1,4 +1,4 @@
--- What devices have heard after a visit of unprotected code.
+-- The calls that devices have heard after a visit of unprotected code.
 use Rattle.std.proofs.Common.{◌≡◌, ℕ, true, List, [], ◌∷◌, ◌++◌, Option, Some, None, refl, sym, ap, ◌∙◌}
 use Rattle.std.specs.Prelude.{◌==◌, ℤ, unwrap_or, if◌then◌else◌}
 use Rattle.ame_term.specs.Tree.{Val, Tree}

@@ -1,4 +1,4 @@
--- Machines of other seats are where they were after notes and visits.
+-- Machines of other seats stay after notes and visits.
 use Rattle.std.proofs.Common.{◌≡◌, ◌≢◌, ℕ, Bool, true, List, Some, refl, ap}
 use Rattle.std.specs.Prelude.{Option, unwrap_or}
 use Rattle.ame_term.specs.Tree.{Val, Tree, unit_tree}
@@ -24,7 +24,7 @@ use Rattle.ame_protocol.specs.Waits.Noted.{has_noted}
 use Rattle.ame_protocol.specs.Visits.ByAct.{memory_after}
 use Rattle.ame_protocol.specs.Visits.Stops.{told_task, has_been_cut, has_grown_tall}
 use Rattle.ame_protocol.specs.Visits.Visit.{IsVisit, has_visited, has_been_refused}
-use Rattle.ame_engine.specs.AtWork.{IsOnSeat}
+use Rattle.ame_shell.specs.Low.{IsLowOnSeat}
 use Rattle.ame_shell.proofs.OthersLemmas.{stays-on}
 use Rattle.ame_shell.proofs.EndsLemmas.{term-home, other-member, member-below}
 
@@ -35,22 +35,22 @@ term-noted number n places pool =
     (machines-stay n (noted_on places) pool.members (noted n places pool).members (found_altered n (noted_on places) (λ _. refl) pool.members) (λ _. refl) (λ _. refl)
     number)
 
-module _ (parts : Parts) (seat other : ℕ) (s : MachineView) (apart : other ≢ seat) (on : IsOnSeat parts other s) where
-  pub noted-others : (attempt : Attempt) (steps : ℕ) (p : LocalState) → IsOnSeat (has_noted seat attempt steps p parts) other s
+module _ (parts : Parts) (seat other : ℕ) (s : MachineView) (apart : other ≢ seat) (on : IsLowOnSeat parts other s) where
+  pub noted-others : (attempt : Attempt) (steps : ℕ) (p : LocalState) → IsLowOnSeat (has_noted seat attempt steps p parts) other s
   noted-others attempt steps p =
       stays-on parts (has_noted seat attempt steps p parts) other s
       (task_else parts.tasks seat (Task.Undoing (record attempt { logged = true }) Reason.Noted) other apart) refl
       (λ a e. term-noted a.tried.number attempt.tried.number (read_places (row_at parts.memory.rows seat).reads) parts.pool) on
 
-  pub cut-others : (number steps : ℕ) (p : LocalState) (task : Task) → IsOnSeat (has_been_cut seat number steps p task parts) other s
+  pub cut-others : (number steps : ℕ) (p : LocalState) (task : Task) → IsLowOnSeat (has_been_cut seat number steps p task parts) other s
   cut-others number steps p task =
       stays-on parts (has_been_cut seat number steps p task parts) other s (task_else parts.tasks seat (told_task task) other apart) refl (λ a e. refl) on
 
-  pub tall-others : (number steps : ℕ) (p : LocalState) (task : Task) → IsOnSeat (has_grown_tall seat number steps p task parts) other s
+  pub tall-others : (number steps : ℕ) (p : LocalState) (task : Task) → IsLowOnSeat (has_grown_tall seat number steps p task parts) other s
   tall-others number steps p task =
       stays-on parts (has_grown_tall seat number steps p task parts) other s (task_else parts.tasks seat (told_task task) other apart) refl (λ a e. refl) on
 
-  pub refused-others : (number : ℕ) → IsOnSeat (has_been_refused seat number parts) other s
+  pub refused-others : (number : ℕ) → IsLowOnSeat (has_been_refused seat number parts) other s
   refused-others number =
       stays-on parts (has_been_refused seat number parts) other s (task_else parts.tasks seat Task.Idle other apart) refl
       (λ a e. term-home Reason.Stopped number a.tried.number parts.pool) on
@@ -76,7 +76,7 @@ visit-rows parts number n p inside memory (IsVisit.stepped steps place some stan
 visit-rows parts number n p inside memory (IsVisit.acted steps place act v made stands at given gives) = act-rows act parts.memory
 visit-rows parts number n p inside memory (IsVisit.closed steps place v stands closes) = refl
 
-module _ (parts : Parts) (stands : Simulates parts) (seat other : ℕ) (s : MachineView) (apart : other ≢ seat) (on : IsOnSeat parts other s) (number : ℕ)
+module _ (parts : Parts) (stands : Simulates parts) (seat other : ℕ) (s : MachineView) (apart : other ≢ seat) (on : IsLowOnSeat parts other s) (number : ℕ)
     (of : member_of (task_at parts.tasks seat) ≡ Some number) (steps : ℕ) (p : LocalState) (inside : Bool) (memory : MemoryView Val) (rows : memory.rows ≡ parts.memory.rows) where
   abbrev later_pool : Roster Tree
   later_pool = with_newcomers parts.next p.spawns parts.pool
@@ -94,7 +94,7 @@ module _ (parts : Parts) (stands : Simulates parts) (seat other : ℕ) (s : Mach
       ((found_altered number (renewed p.term inside) (λ _. refl) later_pool.members).others i (other-member parts stands seat other apart number of a has))) in
       ap (λ (o : Option Tree). unwrap_or o unit_tree) k.machine
 
-  pub visited-others : IsOnSeat (has_visited seat number steps p inside memory parts) other s
+  pub visited-others : IsLowOnSeat (has_visited seat number steps p inside memory parts) other s
   visited-others =
       stays-on parts (has_visited seat number steps p inside memory parts) other s (task_else parts.tasks seat Task.Idle other apart)
       (ap (λ (all : List (Log Val)). row_at all other) rows) term-kept on

@@ -1,4 +1,4 @@
--- What an engine is asked for in a turn, by what a seat has at hand.
+-- The request of a turn, by the seat's work in flight.
 use Rattle.std.specs.Prelude.{◌≡◌, ℕ, ◌≤◌, ◌<◌, ◌⊎◌, Bool, true, false, Option, Some, None, is_some}
 use Rattle.ame_rows.specs.Valid.{IsValid}
 use Rattle.ame_rows.specs.MemoryView.{row_at}
@@ -33,7 +33,7 @@ is_handed_in wants.Leave inside = true
 is_handed_in _ inside = inside
 
 module _ {C V M : Type 0} (core : Core C V M) (hand : Option MachineView) where
-  -- a seat goes on from where the machine stands that it has at hand: no stop is kept, and turns are left
+  -- a seat goes on with its machine: no stop is kept, and turns are left
   pub record IsToGoOn (s : MachineView) : Type 0 where
     pub met : hand ≡ Some s
     pub going : core.stop ≡ None
@@ -99,13 +99,13 @@ module _ {C V M : Type 0} (core : Core C V M) (seat : ℕ) (hand : Option Machin
     visits : (s : MachineView) → IsToVisit core hand s → IsToTakeMemory
     cuts : (s : MachineView) → hand ≡ Some s → HasNoTurnsLeft core → AreAllValid core seat → IsToTakeMemory
 
-  -- memory is lacking where such an event is due
+  -- memory runs out only if such an event is due
   abbrev pub LacksWhereDue : Outcome → Type 0
   LacksWhereDue Outcome.Lacked = IsToTakeMemory
   LacksWhereDue _ = Unit {0}
 
 module _ {C V M : Type 0} (stage : C → M → MachineView) (core : Core C V M) (seat : ℕ) (hand : Work M) where
-  -- A seat lacks memory where its machine isn't ready, and else only where an event is due that takes memory.
+  -- A seat runs out of memory if its machine isn't ready, and otherwise only if an event is due that takes memory.
   pub record LacksAsDue (outcome : Outcome) : Type 0 where
     pub unready : (IsReadyWork stage core.code core.limits.slice hand → ⊥) → core.stop ≡ None → outcome ≡ Outcome.Lacked
     pub due : IsReadyWork stage core.code core.limits.slice hand → LacksWhereDue core seat (stage_at stage core.code hand) outcome

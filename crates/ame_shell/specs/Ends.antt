@@ -1,32 +1,32 @@
--- What the ends of a run tell: its sink and its devices.
+-- The ends of a run: its sink and its devices.
 use Rattle.std.specs.Prelude.{ℕ, List, Option, None, slice_index_or}
 use Rattle.ame_device.specs.declared.told.Heard.{Heard}
 use Rattle.ame_device.specs.declared.told.Told.{Told}
 use Rattle.ame_device.specs.Calls.{told, all_told}
 
--- The bytes of the sink, where it tells them, its count of faults, and what each device tells.
+-- The bytes of the sink, if it shows them, its count of faults, and what each device shows.
 pub record Ends : Type 0 where
   pub written : Option (List ℕ)
   pub write_faults : ℕ
   pub told : List Told
 
--- what a sink and a list of devices tell
+-- what a sink and a list of devices show
 abbrev pub ends_of :
     {K D : Type 0} → (K → Option (List ℕ)) → (K → ℕ) → (D → Option (List Heard)) → (D → ℕ) → K → List D → Ends
 ends_of written faults heard device_faults sink devices =
     record { written = written sink; write_faults = faults sink; told = all_told heard device_faults devices }
 
--- what device k of a list tells; nothing where there is none
+-- what device k of a list shows; nothing if there is none
 abbrev pub told_at : List Told → ℕ → Told
 told_at devices k = slice_index_or devices k (told None 0)
 
--- A sink and devices as they are, and what they tell.
+-- A sink and devices as they are, and what they show.
 pub record IoView (K D : Type 0) : Type 0 where
   pub sink : K
   pub devices : List D
   pub ends : Ends
 
--- a sink and devices, with what they tell
+-- a sink and devices, with what they show
 abbrev pub io_of :
     {K D : Type 0} → (K → Option (List ℕ)) → (K → ℕ) → (D → Option (List Heard)) → (D → ℕ) → K → List D → IoView K D
 io_of written faults heard device_faults sink devices =

@@ -1,4 +1,4 @@
--- What devices heard in a run, and which of them failed.
+-- The calls that devices heard in a run, and the devices that failed.
 use Rattle.std.specs.Prelude.{◌≡◌, ℕ, ℤ, List, [], ◌++◌, map, length, drop, Option, Some, option_map}
 use Rattle.ame_term.specs.Tree.{Tree}
 use Rattle.ame_journal.specs.declared.entry.Entry.{Entry}
@@ -14,15 +14,15 @@ use Rattle.ame_shell.specs.Ends.{told_at}
 abbrev pub answered_all : List (ℤ × ℤ) → List Heard
 answered_all calls = map (λ call. answered call.0 call.1) calls
 
--- the calls that were heard and more, where they are told
+-- the calls that were heard and more, if they are shown
 abbrev pub and_more : Option (List Heard) → List Heard → Option (List Heard)
 and_more heard more = option_map (λ calls. calls ++ more) heard
 
--- the calls of device k that entries make behind those of a base
+-- the calls of device k that entries make after those of a base
 abbrev pub added_calls : ℕ → Tree → List Entry → List Entry → List (ℤ × ℤ)
 added_calls k program base entries = drop (length (device_calls k program base)) (device_calls k program (base ++ entries))
 
--- Each device has heard the calls that entries behind a base make of it, behind what it had heard before, and no others.
+-- Each device has heard the calls that entries after a base make of it, after what it had heard before, and no others.
 pub record HaveHeardSince (program : Tree) (base entries : List Entry) (before after : List Told) : Type 0 where
   pub count : length after ≡ length before
   pub heard : (k : ℕ) → (told_at after k).heard ≡ and_more (told_at before k).heard (answered_all (added_calls k program base entries))

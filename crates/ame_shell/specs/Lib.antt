@@ -1,3 +1,4 @@
+pub mod Low
 pub mod Work
 pub mod Ready
 pub mod Asked

@@ -1,4 +1,4 @@
--- What a seat did, as an event of the engine.
+-- The outcome of a seat's turn, as an event of the engine.
 use Rattle.std.specs.Prelude.{◌≡◌, ℕ, ℤ, Bool, true, false, List, Option, Some, None, is_some, Err}
 use Rattle.ame_term.specs.Tree.{Val}
 use Rattle.ame_term.specs.declared.types.Loc.{Loc}
@@ -15,7 +15,7 @@ use Rattle.ame_machine.specs.MachineView.{MachineView, place_shown, without_foot
 use Rattle.ame_machine.specs.Input.{value_to_set}
 use Rattle.ame_machine.specs.Meaning.{Meaning}
 use Rattle.ame_machine.specs.Run.Local.{LocalState}
-use Rattle.ame_protocol.specs.declared.certificate.Certificate.{Certificate}
+use Rattle.ame_journal.specs.declared.certificate.Certificate.{Certificate}
 use Rattle.ame_protocol.specs.declared.stop.Stop.{Stop}
 use Rattle.ame_protocol.specs.declared.types.Attempt.{Attempt}
 use Rattle.ame_protocol.specs.declared.types.Task.{Task}
@@ -34,7 +34,7 @@ use Rattle.ame_shell.specs.declared.work.Outcome.{Outcome}
 use Rattle.ame_shell.specs.Asked.{AsksFor, RunsTo, Accesses, IsToCheck, IsToCommit, IsToVisit, HasNoTurnsLeft, AreAllValid}
 
 module _ {C V M : Type 0} where
-  -- what a seat makes of the engine that meets a stop, with the certificates where all members are parked
+  -- what a seat makes of the engine that meets a stop, with the certificates if all members are parked
   abbrev pub StopsBy : List Certificate → Pick → Core C V M → Core C V M → Type 0
   StopsBy certificates Pick.Stopped old new = new ≡ old
   StopsBy certificates Pick.Finished old new = new ≡ stopped_by Stop.Finished old
@@ -67,7 +67,7 @@ is_home Outcome.CameHome = true
 is_home (Outcome.DeviceFailed device) = true
 is_home _ = false
 
--- a run has come to this place, where a machine stands that was given this answer, if one
+-- a run has come to this place, at which a machine stands that was given this answer, if one
 abbrev pub IsShownAt : MachineView → Option ℤ → LocalState → Type 0
 IsShownAt s answer place = without_footprint place ≡ with_answer answer (place_shown s)
 
@@ -82,7 +82,7 @@ module _ {C V M : Type 0} (meaning : Meaning C V M) (seat : ℕ)
   abbrev pub IsReadInvalid : Bad → Type 0
   IsReadInvalid bad = IsFirstBad old.memory.cells seat (row_at old.memory.rows seat).reads bad
 
-  -- The outcome of an event, to which the seat comes with the machine that it has at hand, if any. What the engine's own state says of
+  -- The outcome of an event, to which the seat comes with its machine, if it has one. What the engine's own state says of
   -- it stands in `May`.
   pub data IsOutcomeOf : Outcome → Event → Type 0 where
     began : (number : ℕ) → Meets (Pick.Member number) → IsOutcomeOf Outcome.Began (Event.Begin seat number)
@@ -125,7 +125,7 @@ module _ {C V M : Type 0} (meaning : Meaning C V M) (seat : ℕ)
     went_home : (attempt : Attempt) → IsOutcomeOf Outcome.WentHome (Event.Home seat attempt)
     lacked : new ≡ stopped_by Stop.NoMemory old → IsOutcomeOf Outcome.Lacked (Event.Halt Stop.NoMemory)
 
-  -- What a seat made: one event, which its outcome tells; or none, where it waits for others or a stop was kept before.
+  -- A seat made one event, which its outcome names; or none, if it waits for others or a stop was kept before.
   pub data IsMade : Outcome → Type 0 where
     makes : (outcome : Outcome) (e : Event) → IsOutcomeOf outcome e → Makes meaning e old new → IsMade outcome
     waits : Meets Pick.Idle → new ≡ old → IsMade Outcome.Waited

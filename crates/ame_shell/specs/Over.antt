@@ -1,4 +1,4 @@
--- What a run tells that is over.
+-- A run that is over.
 use Rattle.std.specs.Prelude.{◌≡◌, ℕ, ◌<◌, List, [], All}
 use Rattle.ame_io.specs.Lines.{lines}
 use Rattle.ame_term.specs.Tree.{Val, Tree}
@@ -13,7 +13,7 @@ use Rattle.ame_shell.specs.Sent.{IsSent}
 use Rattle.ame_shell.specs.Heard.{HaveHeardSince, HaveFailed}
 use Rattle.ame_shell.specs.Ran.{IsRanBy}
 
--- each entry is of one of so many seats
+-- each entry is of one of this number of seats
 abbrev pub AreOfSeats : ℕ → List Entry → Type 0
 AreOfSeats seats entries = All (λ entry. entry.seat < seats) entries
 
@@ -21,10 +21,10 @@ AreOfSeats seats entries = All (λ entry. entry.seat < seats) entries
 abbrev pub NoneWereInTheWay : Counters → Type 0
 NoneWereInTheWay counters = IsUndisturbed counters
 
--- A run of a program that went on from a base, with what its ends told before and after. Base and journal replay, and its stop has
+-- A run of a program that went on from a base, with what its ends showed before and after. Base and journal replay, and its stop has
 -- its cause in the state that is left. The lines of what was printed were sent, those of the base among them, all of them unless the
--- sink failed; each device has heard what the journal tells behind the base, and none failed unless that is the stop. One seat by
--- itself has nobody in its way. Events led to the end, each where it may be.
+-- sink failed. Each device has heard what the journal says after the base, and none failed unless that is the stop. One seat by
+-- itself has no other seat in its way. Events led to the end, each when it may come.
 pub record IsOverSince (since : List Entry) (program : Tree) (signature : Signature) (limits : Limits) {V : Type 0} (value : V → Val) (before : Ends) (end : End V)
     (after : Ends) : Type 0 where
   pub ends : IsEnd program signature limits value end

@@ -1,4 +1,4 @@
--- The events of a run, from where it was opened to its end.
+-- The events of a run, from its opening to its end.
 use Rattle.std.specs.Prelude.{◌≡◌, ◌⊎◌, List, [], map, Some}
 use Rattle.ame_term.specs.Tree.{Val, Tree}
 use Rattle.ame_term.specs.Signature.{Signature}
@@ -16,6 +16,7 @@ use Rattle.ame_protocol.specs.Event.Event.{Event}
 use Rattle.ame_protocol.specs.Event.Runs.{Follows, entries_along}
 use Rattle.ame_protocol.specs.Event.State.{State, started_state, opened_state}
 use Rattle.ame_engine.specs.Ending.{End}
+use Rattle.ame_shell.specs.Low.{GoLow}
 
 -- A base leads to this state, with all members ready and each seat idle, and nothing is counted.
 pub record GoesOnFrom (program : Tree) (signature : Signature) (limits : Limits) (base : List Entry) (s : State) : Type 0 where
@@ -30,7 +31,7 @@ pub record GoesOnFrom (program : Tree) (signature : Signature) (limits : Limits)
   pub ready : AreReady pool
   pub state : s ≡ opened_state program signature limits base cells pool led.state.output led.state.next
 
--- A state from which a run goes on: the one of a program that has just started, where the base is empty, or one to which the base leads.
+-- A state from which a run goes on: the one of a program that has just started, if the base is empty, or one to which the base leads.
 abbrev pub IsStart : Tree → Signature → Limits → List Entry → State → Type 0
 IsStart program signature limits base s = ((base ≡ []) × (s ≡ started_state program signature limits)) ⊎ GoesOnFrom program signature limits base s
 
@@ -46,12 +47,14 @@ pub record EndsAs {V : Type 0} (value : V → Val) (s : State) (end : End V) : T
   pub stop : s.stop ≡ end.stop
   pub certificates : s.certificates ≡ end.certificates
 
--- Events led from a start to this end, each where it may be, and what they add to the journal are the entries of the end.
+-- Events led from a start to this end, each when it may come, and what they add to the journal are the entries of the end. None of their
+-- steps was at a form that would become a value that is too high.
 pub record IsRanBy (program : Tree) (signature : Signature) (limits : Limits) (base : List Entry) {V : Type 0} (value : V → Val) (end : End V) : Type 0 where
   pub start : State
   pub starts : IsStart program signature limits base start
   pub events : List Event
   pub last : State
   pub follows : Follows start events last
+  pub low : GoLow start events
   pub told : entries_along events ≡ end.entries
   pub ends : EndsAs value last end

@@ -1,4 +1,4 @@
--- What is done before a turn: machines make steps.
+-- The work before a turn: machines make steps.
 use Rattle.std.specs.Prelude.{◌≡◌, ℕ, ◌+◌, ◌-◌, ◌^◌, ◌≤◌, ◌<◌, Some}
 use Rattle.ame_machine.specs.declared.wants.Wants.{Wants}
 use Rattle.ame_machine.specs.declared.wants.Wants.TheVariants as wants
@@ -8,7 +8,7 @@ use Rattle.ame_machine.specs.Sound.{CanRun}
 use Rattle.ame_shell.specs.declared.work.Work.{Work}
 use Rattle.ame_shell.specs.declared.work.Work.TheVariants as work
 
--- A machine is ready for its turn: it wants something, and where it is fuel it has made a slice of steps.
+-- A machine is ready for its turn: it wants something, and if that is fuel it has made a slice of steps.
 pub record IsReady (slice : ℕ) (s : MachineView) : Type 0 where
   pub want : Wants
   pub told : s.want ≡ Some want
@@ -26,7 +26,7 @@ module _ {C M : Type 0} (is_machine : C → M → Type 0) (stage : C → M → M
     pub machine : is_machine code new
     pub ran : AdvancesWithin (slice - (stage code old).since) (stage code old) (stage code new)
 
-  -- so it is where a seat has a machine at hand
+  -- so it is if a seat has a machine
   abbrev pub CanBePrepared : Work M → Type 0
   CanBePrepared (work.Running m) = CanGoOn m
   CanBePrepared _ = Unit {0}
@@ -38,7 +38,7 @@ module _ {C M : Type 0} (is_machine : C → M → Type 0) (stage : C → M → M
   IsPrepared _ _ = ⊥
 
 module _ {C M : Type 0} (stage : C → M → MachineView) (code : C) (slice : ℕ) where
-  -- a machine that a seat has at hand is ready
+  -- the machine of a seat is ready
   abbrev pub IsReadyWork : Work M → Type 0
   IsReadyWork (work.Running m) = IsReady slice (stage code m)
   IsReadyWork _ = Unit {0}

@@ -1,4 +1,4 @@
--- What turns need of a shell, and what one makes of it.
+-- The needs of a turn, and its effect on a shell.
 use Rattle.std.specs.Prelude.{◌≡◌, ◌≢◌, ℕ, ◌+◌, ◌<◌, ◌≤◌, Bool, true, false, length, drop, Option, Some, None}
 use Rattle.std.specs.Io.KnownBytes.{Appends}
 use Rattle.ame_io.specs.Counts.{HasRisen}
@@ -17,7 +17,7 @@ use Rattle.ame_shell.specs.Work.{Fits}
 use Rattle.ame_machine.specs.Meaning.{Meaning}
 
 module _ {C V M : Type 0} where
-  -- What wasn't sent yet of the text is sent; or the sink failed after its first bytes, and that stop is kept.
+  -- The rest of the text is sent; or the sink failed after its first bytes, and that stop is kept.
   pub data HasFlushed (old new : ShellView C V M) : Type 0 where
     sends : Appends old.ends.written new.ends.written (drop old.sent (lines old.core.output)) → new.ends.write_faults ≡ old.ends.write_faults
         → new.core ≡ old.core → new.sent ≡ length (lines old.core.output) → HasFlushed old new
@@ -25,14 +25,14 @@ module _ {C V M : Type 0} where
         → gone < length (drop old.sent (lines old.core.output)) → HasRisen old.ends.write_faults new.ends.write_faults
         → new.core ≡ stopped_by Stop.WriteFault old.core → new.sent ≡ old.sent + gone → HasFlushed old new
 
--- whether a seat did something of which lines may come
+-- whether lines may come of what a seat did
 abbrev pub is_to_flush : Outcome → Bool
 is_to_flush Outcome.Ended = true
 is_to_flush Outcome.Left = true
 is_to_flush Outcome.CameHome = true
 is_to_flush _ = false
 
--- the member that a seat had at work, else the one that it has now
+-- the member that a seat had at work, or otherwise the one that it has now
 abbrev pub member_told : Option ℕ → Option ℕ → Option ℕ
 member_told (Some number) after = Some number
 member_told None after = after

@@ -12,7 +12,7 @@ use crate::work::Outcome;
 use ame_engine::{Engine, Wrote};
 use ame_machine::{Input, Runner};
 
-/// Feeds the machine of a seat the value in place that it wants, whoever owns the cell.
+/// Feeds the machine of a seat the value in place that it wants, even if another seat owns the cell.
 pub(crate) fn read_on<M: Runner>(
     engine: &mut Engine<M>,
     code: &M::Code,

@@ -1,4 +1,4 @@
-//! What a seat does in its turn.
+//! The turn of a seat.
 
 ghost use Rattle.std.specs.Prelude.{◌≡◌, ◌≢◌, ◌≤◌, ◌<◌, ◌^◌, List, Some, None, true, false, length};
 ghost use Rattle.ame_device.specs.declared.told.Told.{Told};
@@ -44,7 +44,7 @@ where
     is_small(engine.limits().turns);
 }
 
-/// Whether the reads of a seat are checked at a full slice before this is done.
+/// Returns whether the reads of a seat are checked at a full slice before this is done.
 fn waits_for_check(want: Wants) -> bool
     ensures { result ≡ waits_for_check (Some want) }
 {
@@ -54,8 +54,8 @@ fn waits_for_check(want: Wants) -> bool
     )
 }
 
-/// Whether a machine wants something, and has made a slice of steps if that is fuel. Memory was lacking where it isn't so after
-/// `prepare`.
+/// Returns whether a machine wants something, and has made a slice of steps if that is fuel. If that isn't so after `prepare`, memory
+/// ran out.
 fn is_ready<M: Runner>(engine: &Engine<M>, work: &Work<M>) -> bool
 where
     M::Code: Drop,
@@ -74,7 +74,7 @@ where
     }
 }
 
-/// Whether a seat turned back or is noted, so that it undoes.
+/// Returns whether a seat turned back or is noted, so that it undoes.
 fn is_back(outcome: Outcome) -> bool
     ensures { result ≡ turns_back outcome }
 {
@@ -90,7 +90,7 @@ fn is_back(outcome: Outcome) -> bool
     )
 }
 
-/// Whether the member of a seat that was committed or visited is home again.
+/// Returns whether the member of a seat that was committed or visited is home again.
 fn is_home(outcome: Outcome) -> bool
     ensures { result ≡ comes_home outcome }
 {
@@ -100,7 +100,7 @@ fn is_home(outcome: Outcome) -> bool
     )
 }
 
-/// Serves the machine of a seat in place: an access, a check of its reads, or a note of where it stands.
+/// Serves the machine of a seat in place: an access, a check of its reads, or a note of its place.
 fn serve<M: Runner>(
     engine: &mut Engine<M>,
     code: &M::Code,
@@ -177,7 +177,7 @@ where
     }
 }
 
-/// Whether a machine is handed in at its turn, by what it wants and whether it is inside.
+/// Returns whether a machine is handed in at its turn, by what it wants and whether it is inside.
 fn is_handed_in(want: Wants, inside: bool) -> bool
     ensures { result ≡ is_handed_in want inside }
 {
@@ -188,7 +188,7 @@ fn is_handed_in(want: Wants, inside: bool) -> bool
     }
 }
 
-/// A turn of a seat that has a member at work, once the turns are used up: that stop is kept.
+/// Makes the turn of a seat that has a member at work, once the turns are used up: that stop is kept.
 fn spend<M: Runner>(engine: &mut Engine<M>, seat: u32, work: &mut Work<M>) -> Outcome
 where
     M::Code: Drop,
@@ -211,9 +211,9 @@ where
     }
 }
 
-/// One event of a seat, exactly the one that the engine, the seat's work in flight and what its machine wants name. Where the machine
-/// isn't ready, or memory is lacking for the event itself, that stop is kept, and nothing else changes; an event that takes no memory
-/// never lacks it.
+/// Makes one event of a seat, exactly the one that the engine, the seat's work in flight and what its machine wants name. If the machine
+/// isn't ready, or the event runs out of memory, that stop is kept, and nothing else changes. An event that takes no memory never runs
+/// out of it.
 pub(crate) fn act<M: Runner, K: Sink, D: Device>(
     engine: &mut Engine<M>,
     code: &M::Code,

@@ -1,4 +1,4 @@
-//! What every seat may do, whatever it has in flight: it begins, undoes, or gives up.
+//! Events of any seat, whatever it has in flight: it begins, undoes, or gives up.
 
 ghost use Rattle.std.specs.Prelude.{◌≡◌, ◌<◌, List, Option, None};
 ghost use Rattle.ame_device.specs.declared.told.Told.{Told};

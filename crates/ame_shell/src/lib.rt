@@ -1,4 +1,4 @@
-//! What a seat does in its turn, over an engine with its sink and its devices, and what a run leaves of them.
+//! The turns of seats over an engine with its sink and its devices, and what a run leaves of them.
 #![tactic(auto)]
 
 mod accesses;

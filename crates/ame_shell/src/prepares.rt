@@ -1,4 +1,4 @@
-//! What is done before a turn.
+//! The work before a turn.
 
 ghost use Rattle.std.specs.Prelude.{◌≡◌, ◌<◌, OnOk, OnErr};
 ghost use Rattle.ame_engine.specs.Whole.{AreLimits};
@@ -11,7 +11,7 @@ use ame_machine::{Runner, Wants};
 use ame_term::NoMemory;
 use std::alloc::Global;
 
-/// A machine makes steps until it wants something or its slice is full, unless it wants something already.
+/// Runs a machine until it wants something or its slice is full, unless it wants something already.
 fn go_on<M: Runner>(
     alloc: Global,
     code: &M::Code,
@@ -34,8 +34,7 @@ fn go_on<M: Runner>(
     }
 }
 
-/// The machine that a seat has at hand makes steps until it wants something or its slice is full, unless it wants something
-/// already. Done before a turn, without the engine. After `NoMemory` it may have made some of the steps, and isn't ready.
+/// Runs the machine of a seat until it wants something or its slice is full, unless it wants something already. Done before a turn, without the engine. After `NoMemory` it may have made some of the steps, and isn't ready.
 pub fn prepare<M: Runner>(
     alloc: Global,
     code: &M::Code,

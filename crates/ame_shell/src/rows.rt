@@ -15,7 +15,7 @@ use crate::work::Outcome;
 use ame_engine::{Checked, Engine, Noted};
 use ame_machine::Runner;
 
-/// Checks the reads of a seat. Its machine then counts its steps from there on; else the seat turns back.
+/// Checks the reads of a seat. Its machine then counts its steps from there on. Otherwise the seat turns back.
 pub(crate) fn check_on<M: Runner>(engine: &mut Engine<M>, seat: u32, machine: &mut M) -> Outcome
 where
     M::Code: Drop,
@@ -38,7 +38,7 @@ where
     }
 }
 
-/// Commits the row of a seat whose member ended or came to `unprotected`, which `outcome` tells; else the seat turns back.
+/// Commits the row of a seat whose member ended or came to `unprotected`, as `outcome` says. Otherwise the seat turns back.
 pub(crate) fn commit_on<M: Runner>(
     engine: &mut Engine<M>,
     seat: u32,
@@ -63,7 +63,7 @@ where
     }
 }
 
-/// Notes that the member of a seat came to a condition that is false; else the seat turns back.
+/// Notes that the member of a seat came to a condition that is false. Otherwise the seat turns back.
 pub(crate) fn block_on<M: Runner>(engine: &mut Engine<M>, seat: u32, machine: &M) -> Outcome
 where
     M::Code: Drop,
@@ -82,7 +82,7 @@ where
     }
 }
 
-/// Notes that the member of a seat came to a value that is too high; else the seat turns back.
+/// Notes that the member of a seat came to a value that is too high. Otherwise the seat turns back.
 pub(crate) fn tall_on<M: Runner>(engine: &mut Engine<M>, seat: u32, machine: &M) -> Outcome
 where
     M::Code: Drop,
@@ -101,7 +101,7 @@ where
     }
 }
 
-/// Keeps that the turns are used up, and notes where the machine of a seat is cut off, if its reads are valid.
+/// Keeps that the turns are used up, and notes the place at which a seat's machine is cut off, if its reads are valid.
 pub(crate) fn spend_running<M: Runner>(engine: &mut Engine<M>, seat: u32, machine: &M) -> Outcome
 where
     M::Code: Drop,

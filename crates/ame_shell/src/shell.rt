@@ -46,14 +46,14 @@ where
     }
 }
 
-/// Whether lines may have come of what a seat did.
+/// Returns whether lines may have come of what a seat did.
 fn is_to_flush(outcome: Outcome) -> bool
     ensures { result ≡ flushes_after outcome }
 {
     matches!(outcome, Outcome::Ended | Outcome::Left | Outcome::CameHome)
 }
 
-/// The member that a seat has at work.
+/// Returns the member that a seat has at work.
 fn member_at<M: Runner>(engine: &Engine<M>, seat: u32) -> Option<u64>
 where
     M::Code: Drop,
@@ -72,7 +72,7 @@ impl<M: Runner, K: Sink, D: Device> Shell<M, K, D>
 where
     M::Code: Drop,
 {
-    /// Sends what wasn't sent yet of the text. Where the sink fails, that stop is kept. Takes no memory.
+    /// Sends what wasn't sent yet of the text. If the sink fails, that stop is kept. Takes no memory.
     pub fn flush(&mut self)
         requires within { self.old.sent ≤ length (lines self.old.engine.output) }
         requires going { self.old.engine.stop ≡ None }
@@ -104,8 +104,8 @@ where
         }
     }
 
-    /// One event of a seat, exactly the one that the engine, the seat's work in flight and what its machine wants name. Lines that come
-    /// of it are sent then; where the sink fails, that stop is kept. Where the machine isn't ready, memory was lacking.
+    /// Makes one event of a seat, exactly the one that the engine, the seat's work in flight and what its machine wants name. Then it
+    /// sends the lines that come of it. If the sink fails, that stop is kept. If the machine isn't ready, memory ran out before.
     pub fn turn(&mut self, code: &M::Code, seat: u32, work: &mut Work<M>) -> Turn
         requires may { MayTurn M.meaning code.now seat (shell_view self.old) work.old }
         ensures turned { HasTurned M.meaning seat (stage_at M.meaning.stage self.old.engine.code work.old)
@@ -128,7 +128,7 @@ where
         }
     }
 
-    /// Sink and devices, as they are.
+    /// Returns sink and devices, as they are.
     pub fn into_io(self) -> Io<K, D>
         ensures { result ≡ self.io }
     {
@@ -140,7 +140,7 @@ where
         io
     }
 
-    /// What is left where memory is lacking while all seats are idle: that stop is kept, if none is. Takes no memory.
+    /// Returns what is left if memory runs out while all seats are idle: that stop is kept, if none is. Takes no memory.
     pub fn give_up(self) -> Remains<M::Value, K, D>
         requires idle { (seat : ℕ) → task_at self.engine.tasks seat ≡ Task.Idle }
         ensures told { result.ended ≡ end_of (stopped_by Stop.NoMemory self.engine) }
@@ -151,7 +151,7 @@ where
         shell.finish()
     }
 
-    /// What is left once a stop is kept and all seats are idle. Takes no memory.
+    /// Returns what is left once a stop is kept and all seats are idle. Takes no memory.
     pub fn finish(self) -> Remains<M::Value, K, D>
         requires idle { (seat : ℕ) → task_at self.engine.tasks seat ≡ Task.Idle }
         requires stopped { IsSome self.engine.stop }

@@ -11,14 +11,14 @@ use crate::work::{Outcome, Work};
 use ame_engine::Engine;
 use ame_machine::Runner;
 
-/// Names no machine, where a seat has none in flight.
+/// Names no machine, for a seat that has none in flight.
 fn no_machine<M>(_work: &Work<M>) -> Option<&M>
     ensures { result ≡ None }
 {
     None
 }
 
-/// Keeps that the turns are used up, where a seat undoes.
+/// Keeps that the turns are used up, for a seat that undoes.
 pub(crate) fn spend_undoing<M: Runner>(engine: &mut Engine<M>, seat: u32, work: &Work<M>) -> Outcome
 where
     M::Code: Drop,

@@ -7,7 +7,7 @@ ghost use Rattle.ame_protocol.specs.Engine.Parts.{Parts};
 ghost use Rattle.ame_protocol.specs.Engine.Simulates.{Simulates};
 ghost use Rattle.ame_engine.specs.AtWork.{IsOnSeat};
 
-/// A machine that is where a seat's run of protected code stands can run.
+/// Says that a machine can run if it stands on a seat's run of protected code.
 pub fn machines_on_their_seats_can_run()
     ensures { (parts : Parts) (seat : ℕ) (s : MachineView) → Simulates parts → IsOnSeat parts seat s → s.inside ≡ false → CanRun s }
 {}

@@ -1,8 +1,8 @@
-//! A seat's work in flight, and what came of its turn.
+//! A seat's work in flight, and the outcome of its turn.
 
 use ame_rows::Bad;
 
-/// A seat's work in flight: what it has beside the engine.
+/// A seat's work in flight, next to the engine.
 #[derive(Drop)]
 pub enum Work<M> {
     /// Nothing: it is idle.
@@ -13,7 +13,7 @@ pub enum Work<M> {
     Undoing,
 }
 
-/// What came of a turn of a seat.
+/// The outcome of a seat's turn.
 #[derive(Clone, Copy, PartialEq, Eq, Debug)]
 pub enum Outcome {
     /// It began a member.
@@ -59,7 +59,7 @@ pub enum Outcome {
     Lacked,
 }
 
-/// What a turn of a seat did: the member that the seat had at work, else the one that it has now, and what came of it.
+/// A seat's turn: the member that the seat had at work, or otherwise the one that it has now, and the outcome.
 #[derive(Clone, Copy, PartialEq, Eq, Debug)]
 pub struct Turn {
     pub member: Option<u64>,

@@ -1,5 +1,5 @@
 -- The work in flight of the seats of a crew.
-use Rattle.std.proofs.Common.{◌≡◌, ℕ, zero, suc, ◌<◌, ◌≤◌, ◌⊎◌, inl, inr, List, Option, Some, length, set, IsTrue, refl, sym, ap, ◌∙◌, subst, arith}
+use Rattle.std.proofs.Common.{◌≡◌, ℕ, zero, suc, ◌<◌, ◌≤◌, ◌⊎◌, inl, inr, List, Option, Some, None, length, set, IsTrue, refl, sym, ap, ◌∙◌, subst, arith}
 use Rattle.std.specs.Prelude.{slice_index_or, replicate}
 use Rattle.std.specs.List.{list_any}
 use Rattle.std.proofs.lemmas.List.{get_or-set_same, get_or-set_other, length-set, length-replicate}
@@ -27,6 +27,7 @@ use Rattle.ame_shell.specs.Turned.{LeavesInOrder, HasTurned, member_told}
 use Rattle.ame_shell.proofs.OrderLemmas.{order-stays}
 use Rattle.ame_sim.specs.Places.{place_wanted, place_told}
 use Rattle.ame_sim.specs.Played.{HasPlayed}
+use Rattle.ame_sim.specs.Prepared.{IsPreparedHand}
 use Rattle.ame_shell.specs.declared.work.Outcome.{Outcome}
 use Rattle.ame_shell.specs.declared.work.Work.{Work}
 use Rattle.ame_shell.specs.declared.work.Work.TheVariants as work
@@ -94,15 +95,17 @@ module _ {C V M : Type 0} (meaning : Meaning C V M) where
 
   -- the effect of a turn, from its parts
   pub turn-played : (seat : ℕ) (hand : Option MachineView) (old seen new : ShellView C V M) (outcome : Outcome) (member wanted place : Option ℕ) (cells : ℕ)
-      → seen ≡ old → ((s : MachineView) → hand ≡ Some s → IsOnSeat (parts_of meaning seen.core) seat s) → HasTurned meaning seat hand seen new outcome
+      → seen ≡ old → ((s : MachineView) → hand ≡ Some s → IsOnSeat (parts_of meaning seen.core) seat s)
+      → (seen.core.stop ≡ None → (outcome ≡ Outcome.Lacked) ⊎ IsPreparedHand (parts_of meaning seen.core) seat hand) → HasTurned meaning seat hand seen new outcome
       → member ≡ member_told (member_of (task_at seen.core.tasks seat)) (member_of (task_at new.core.tasks seat))
       → cells ≡ length seen.core.memory.cells → wanted ≡ place_wanted cells hand → place ≡ place_told outcome wanted
       → HasPlayed meaning (record { seat = seat; member = member; outcome = outcome; place = place }) old new
-  turn-played seat hand old seen new outcome member wanted place cells is on turned named many wants told =
+  turn-played seat hand old seen new outcome member wanted place cells is on prepared turned named many wants told =
       subst (λ (v : ShellView C V M). HasPlayed meaning (record { seat = seat; member = member; outcome = outcome; place = place }) v new) is
       (record {
         hand = hand;
         stands = on;
+        prepared = prepared;
         turned = turned;
         member = named;
         place = told ∙ ap (place_told outcome) (wants ∙ ap (λ (n : ℕ). place_wanted n hand) many);

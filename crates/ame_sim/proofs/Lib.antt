@@ -10,6 +10,7 @@ pub mod BusyLemmas
 pub mod TurnLemmas
 pub mod UnwindLemmas
 pub mod PlainLemmas
+pub mod PreparedLemmas
 pub mod CrewLemmas
 pub mod PlayLemmas
 pub mod EventLemmas

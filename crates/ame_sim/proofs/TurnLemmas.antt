@@ -14,7 +14,7 @@ use Rattle.ame_protocol.specs.Visits.Visit.{free_entry, has_been_refused}
 use Rattle.ame_protocol.specs.Waits.Noted.{has_noted}
 use Rattle.ame_rows.specs.LettingGo.{undone_last}
 use Rattle.ame_protocol.specs.declared.types.Task.{Task}
-use Rattle.ame_protocol.specs.declared.certificate.Certificate.{Certificate}
+use Rattle.ame_journal.specs.declared.certificate.Certificate.{Certificate}
 use Rattle.ame_protocol.specs.declared.counters.Counters.{Counters}
 use Rattle.ame_engine.specs.declared.pick.Pick.{Pick}
 use Rattle.ame_protocol.specs.declared.stop.Stop.{Stop}

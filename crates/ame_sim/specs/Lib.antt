@@ -7,6 +7,7 @@ pub mod Schedule
 pub mod Places
 pub mod Picks
 pub mod Woven
+pub mod Prepared
 pub mod Played
 pub mod Crew
 pub mod Events

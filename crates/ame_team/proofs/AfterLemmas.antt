@@ -37,7 +37,7 @@ module _ {M K D C V : Type 0} (baton : Baton (Shared M K D C V) (OpenedView C V 
     pub at : IsSeatAt baton opened count place seat
     pub through : IsThrough (knows seat)
 
-  -- seat 0 and the others, all of which are through
+  -- seat 0 and the others, and all are through
   pub record AreThrough (first : SeatAt (Shared M K D C V) (OpenedView C V M) (SeatRow M) (TurnView C V M))
       (rest : List (SeatAt (Shared M K D C V) (OpenedView C V M) (SeatRow M) (TurnView C V M))) : Type 0 where
     pub first_ready : IsReadySeat baton 0 first

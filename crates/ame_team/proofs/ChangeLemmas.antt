@@ -1,4 +1,4 @@
--- What stands in a list after one item was changed.
+-- A list after one item was changed.
 use Rattle.std.proofs.Common.{ℕ, ◌<◌, List, [], ◌∷◌, length, slice_index_or, zero, suc, refl, arith}
 use Rattle.std.specs.Prelude.{slice_set}
 use Rattle.ame_worker.specs.declared.worker.Worker.{Worker}

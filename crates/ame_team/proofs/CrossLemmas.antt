@@ -26,6 +26,7 @@ use Rattle.ame_shell.specs.contracts.io.Io as Io
 use Rattle.ame_shell.specs.contracts.io.Io.TheInside as IoInside
 use Rattle.ame_shell.specs.contracts.shell.Shell as Shell
 use Rattle.ame_engine.specs.contracts.engine.Engine as Engine
+use Rattle.ame_engine.proofs.engine.ledger.Ledger.TheSendSync as ledger
 use Rattle.ame_rows.specs.contracts.memory.Memory as Memory
 use Rattle.ame_rows.specs.contracts.memory.Memory.TheInside as MemoryInside
 use Rattle.ame_engine.specs.contracts.engine.Engine.TheInside as EngineInside
@@ -69,34 +70,7 @@ module _ (M K D C V : RattleType) (r : runner.Ghosts M.Denot C.Denot V.Denot) (m
   engine-send : IsSend (Engine.the_row M C V r m v)
   engine-send =
       let T = EngineInside.the_type M C V r m v in
-      let all : AllSend (fields T) = (
-        Arc-send C sc yc,
-        (
-          search (sendable, crosses) depth 20,
-          (
-            journal.the_send,
-            (
-              journal.the_send,
-              (
-                memory-send V sv,
-                (
-                  search (sendable, crosses) depth 20,
-                  (
-                    pool.the_send M sm,
-                    (
-                      search (sendable, crosses) depth 20,
-                      (
-                        search (sendable, crosses) depth 20,
-                        (search (sendable, crosses) depth 20, (search (sendable, crosses) depth 20, (search (sendable, crosses) depth 20, (search (sendable, crosses) depth 20, (search (sendable, crosses) depth 20, (search (sendable, crosses) depth 20, tt)))))),
-                      ),
-                    ),
-                  ),
-                ),
-              ),
-            ),
-          ),
-        ),
-      ) in
+      let all : AllSend (fields T) = (Arc-send C sc yc, (search (sendable, crosses) depth 20, (journal.the_send, (ledger.the_field_send, (memory-send V sv, (search (sendable, crosses) depth 20, (pool.the_send M sm, (search (sendable, crosses) depth 20, (search (sendable, crosses) depth 20, (search (sendable, crosses) depth 20, (search (sendable, crosses) depth 20, (search (sendable, crosses) depth 20, (search (sendable, crosses) depth 20, tt))))))))))))) in
       view_send _ _ _ _ _ (recorded_send (Struct (shape T)) T.D T.to T.to_one (struct_send (shape T) all))
 
   io-send : IsSend (Io.the_row K D s d)

@@ -1,4 +1,4 @@
--- What is left once all workers are through.
+-- The end, once all workers are through.
 use Rattle.std.proofs.Common.{◌≡◌, ℕ, zero, suc, ◌+◌, ◌<◌, ◌≤◌, ◌==◌, eq-eqb, ◌⊎◌, inl, inr, Bool, true, false, cond, List, [], ◌∷◌, length, All, Option, Some, IsSome, IsSomeAnd, slice_get, refl, sym, ap, ◌∙◌, subst, arith}
 use Rattle.std.specs.Prelude.{option_map}
 use Rattle.std.proofs.lemmas.Bool.{cases_lt}
@@ -28,7 +28,7 @@ some-and {F} P o f e h = subst (λ (x : Option F). IsSomeAnd x P) e h
 some-is : {A : Type 0} (a b : A) → Some a ≡ Some b → a ≡ b
 some-is a b e = cc
 
--- where an item is kept some are, and else those that are kept later
+-- if an item is kept some are, and otherwise those that are kept later
 kept-some : {A : Type 0} (b : Bool) (x : A) (xs : List A) → b ≡ true → cond b (x ∷ xs) xs ≡ [] → ⊥
 kept-some b x xs is none = cc
 
@@ -36,7 +36,7 @@ kept-later : {A : Type 0} (b : Bool) (x : A) (xs : List A) → cond b (x ∷ xs)
 kept-later true x xs none = cc
 kept-later false x xs none = none
 
--- where no other seat had turns, each turn is of one of the seats
+-- if no other seat had turns, each turn is of one of the seats
 by-seats : {C V M : Type 0} (count : ℕ) (turns : List (TurnView C V M)) → ((n : ℕ) → count ≤ n → entries_by maker n turns ≡ []) → All (λ t. t.seat < count) turns
 by-seats {C} {V} {M} count [] none = All-nil (λ (t : TurnView C V M). t.seat < count)
 by-seats {C} {V} {M} count (t ∷ ts) none =

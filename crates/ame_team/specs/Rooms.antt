@@ -3,7 +3,7 @@ use Rattle.std.specs.Prelude.{◌≡◌, ℕ, ◌≤◌, [], All, vec_len, vec_c
 use Rattle.std.specs.Arc.{arc_value}
 use Rattle.ame_team.specs.declared.room.Room.{Room}
 
--- A share of this code for each of so many seats, and room for their workers and for them.
+-- A share of this code for each of these seats, and room for their workers and for them.
 pub record IsRoomFor {M K D C V : Type 0} (code : C) (seats : ℕ) (room : Room M K D C V) : Type 0 where
   pub codes : All (λ it. arc_value it ≡ code) room.codes.items
   pub count : vec_len room.codes ≡ seats

@@ -28,7 +28,7 @@ pub record IsFirstSeat {C V M : Type 0} (made : ℕ) (k : Knows (OpenedView C V 
   pub made_is : k.made ≡ made
   pub none_ended : k.ended ≡ []
 
--- Of so many seats those of the others stand first, in the order of their numbers, and seat 0, which made them, is the last.
+-- Among the seats those of the others stand first, in the order of their numbers, and seat 0, which made them, is the last.
 pub record IsPlaced {C V M : Type 0} (count place : ℕ) (k : Knows (OpenedView C V M) (SeatRow M) (TurnView C V M)) : Type 0 where
   pub others : place + 1 < count → k.number ≡ place + 1
   pub first : place + 1 ≡ count → (k.number ≡ 0) × (k.made ≡ count)

@@ -12,7 +12,7 @@ use ame_worker::{Opened, SeatRow, Shared, TurnRecord, Worker};
 use std::alloc::{AllocError, Global};
 use std::sync::Arc;
 
-/// What a run by workers needs besides its shell, so that nothing is begun before it is there: a share of the code for each
+/// The needs of a run by workers next to its shell, so that nothing is begun before they are met: a share of the code for each
 /// worker, and room for the workers and for their seats.
 pub(crate) struct Room<M: Runner, K: Sink, D: Device>
 where
@@ -36,7 +36,7 @@ where
     }
 }
 
-/// So many shares of the code, this one among them.
+/// Makes this number of shares of the code, this one among them.
 fn shares<C: Drop>(alloc: Global, code: Arc<C>, count: usize) -> Result<Vec<Arc<C>>, AllocError>
     requires { 1 ≤ count }
     ensures same { IfOk result (λ codes. All (λ it. arc_value it ≡ arc_value code) codes.items) }
@@ -57,7 +57,7 @@ impl<M: Runner, K: Sink, D: Device> Room<M, K, D>
 where
     M::Code: Drop,
 {
-    /// Room for a run of so many seats.
+    /// Makes room for a run of this number of seats.
     pub fn take(alloc: Global, code: Arc<M::Code>, seats: u32) -> Result<Room<M, K, D>, AllocError>
         requires { 1 ≤ seats }
         ensures { IfOk result (IsRoomFor (arc_value code) seats) }
@@ -70,7 +70,7 @@ where
         })
     }
 
-    /// The shares of the code, the room for the workers, and that for their seats.
+    /// Returns the shares of the code, the room for the workers, and that for their seats.
     pub fn into_parts(
         self,
     ) -> (

@@ -19,8 +19,8 @@ use std::alloc::Global;
 use std::sync::{Arc, Wait};
 use std::thread::Threads;
 
-/// Runs a program to its end, by as many workers as the limits have seats, each in a thread of its own where one can be made. Where
-/// nothing was begun, for want of memory, it hands sink and devices back as they were.
+/// Runs a program to its end, by as many workers as the limits have seats, each in a thread of its own if one can be made. If it
+/// runs out of memory before anything was begun, it hands sink and devices back as they were.
 pub fn run_by_workers<M, K, D, G, R>(
     rt: &R,
     alloc: Global,
@@ -56,8 +56,8 @@ where
 }
 
 /// Runs a program to its end that goes on from a base, as `run_by_workers` does from its beginning. Before any worker runs it sends the
-/// lines of the base; no device is called for it. Where nothing was sent or begun, for want of memory, it hands sink and devices back as
-/// they were; where memory is lacking behind that, the run ends so.
+/// lines of the base; no device is called for it. If it runs out of memory before anything was sent or begun, it hands sink and devices
+/// back as they were. If it runs out of memory later, the run ends with that stop.
 pub fn resume_by_workers<M, K, D, G, R>(
     rt: &R,
     alloc: Global,

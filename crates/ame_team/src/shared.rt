@@ -19,9 +19,9 @@ use ame_worker::{Gate, Shared};
 use std::sync::Wait;
 use std::thread::Threads;
 
-/// Workers run a shell of which nothing was run, until a stop is kept and all seats are idle, each in a thread of its own where one can
-/// be made. `are_more` is whether more than one member is there at first. Where memory is lacking before they begin, the shell comes back
-/// as it was.
+/// Runs a shell on which nothing was run, by workers, until a stop is kept and all seats are idle. Each has a thread of its own if one can
+/// be made. `are_more` is whether more than one member is there at first. If memory runs out before they begin, it returns the shell as it
+/// was.
 pub(crate) fn run_shared<M, K, D, G, R>(
     rt: &R,
     room: Room<M, K, D>,

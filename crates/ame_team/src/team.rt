@@ -19,7 +19,7 @@ use std::sync::{Arc, Wait};
 use std::thread;
 use std::thread::Threads;
 
-/// The last worker of a team leads, unless the gate may hold it until others have come somewhere. Tells whether the run is over then.
+/// Lets the last worker of a team lead, unless the gate may hold it until others have come somewhere. Returns whether the run is over then.
 /// The others stay as they are.
 fn lead<M, K, D, G, R>(
     rt: &R,
@@ -45,7 +45,7 @@ where
     !gate.may_hold() && workers[last].lead(rt, baton, gate, are_more)
 }
 
-/// Each worker of a team works until a stop is kept and it has nothing at work. One leads, and then each has a thread of its own where
+/// Lets each worker of a team work until a stop is kept and it has nothing at work. One leads, and then each has a thread of its own if
 /// one can be made. `are_more` is whether more than one member is there at first.
 pub(crate) fn work_all<M, K, D, G, R>(
     rt: &R,
@@ -79,7 +79,7 @@ where
     thread::for_each_mut(rt, workers, threads, &work);
 }
 
-/// A worker for each seat: those of the seats that the first one makes, in order, and its own as the last.
+/// Makes a worker for each seat: those of the seats that the first one makes, in order, and its own as the last.
 pub(crate) fn team<M: Runner, K: Sink, D: Device>(
     baton: &Baton<Shared<M, K, D>>,
     first: Seat<Shared<M, K, D>>,
@@ -114,7 +114,7 @@ where
     workers
 }
 
-/// The seats of a team: that of the first worker, and those of the others in order.
+/// Returns the seats of a team: that of the first worker, and those of the others in order.
 pub(crate) fn seats_of<M: Runner, K: Sink, D: Device>(
     workers: Vec<Worker<M, K, D>>,
     room: Vec<Seat<Shared<M, K, D>>>,

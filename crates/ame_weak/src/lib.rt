@@ -20,4 +20,4 @@ pub use theorems::{
     weak_calls_are_told, weak_labels_follow_the_rules, weak_runs_are_typed,
     weak_runs_follow_the_rules, weak_runs_straighten,
 };
-pub use tries::{Certificate, Try};
+pub use tries::Try;

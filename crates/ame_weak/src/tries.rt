@@ -1,14 +1,6 @@
 //! Fragments that were tried, and came to nothing.
 
-use ame_term::Locs;
-
-/// A member that becomes active makes so many steps, and with them exactly these new locations, in order.
-#[derive(Drop)]
-pub struct Certificate {
-    pub number: u64,
-    pub steps: u64,
-    pub fresh: Locs,
-}
+use ame_journal::Certificate;
 
 /// A fragment that was tried on a copy, where nothing was active after the first `after` labels. One that
 /// is failing came to a condition that is false; any other was cut off.

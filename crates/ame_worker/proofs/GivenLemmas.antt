@@ -1,4 +1,4 @@
--- What a seat knows that gave the turn.
+-- The knowledge of a seat that gave the turn.
 use Rattle.ame_term.specs.Signature.{Signature}
 use Rattle.std.proofs.Common.{◌≡◌, ℕ, ◌<◌, List, ◌++◌, set, Option, Some, slice_get, slice_index_or, sym, ap, ◌∙◌, subst, arith}
 use Rattle.std.specs.Prelude.{IsSomeAnd}
@@ -169,7 +169,7 @@ module _ {C V M : Type 0} (meaning : Meaning C V M) {S : Type 0} (shown_of : S �
         row-after : after.row ≡ left
         row-after = ap (λ (k : Knows (OpenedView C V M) (SeatRow M) (TurnView C V M)). k.row) gives.1 ∙ row-left
 
-        -- it is through where it has nothing at work and a stop is kept
+        -- it is through if it has nothing at work and a stop is kept
         pub played-through : RestsAtStop (shown_of given).core holding.number → IsThrough after
         played-through rests = record {
           free = gave.free;
@@ -222,7 +222,7 @@ module _ {C V M : Type 0} (meaning : Meaning C V M) (code : C) (limits : Limits)
       can = can;
     }
 
-  -- a seat that tells that it has stopped is through
+  -- a seat that says that it has stopped is through
   pub had-through : HasHadTurn meaning code limits.slice before after old new Point.Stopped → IsThrough after
   had-through h =
       let t = h.turn in

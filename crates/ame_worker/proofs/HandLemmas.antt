@@ -58,7 +58,7 @@ module _ {M : Type 0} where
   kept-else : (places : List (Kept M)) (seat other : ℕ) (kept : Kept M) → other ≢ seat → kept_at (set places seat kept) other ≡ kept_at places other
   kept-else places seat other kept apart = get_or-set_other places seat other kept nothing_kept apart
 
--- rows with the same task, reads and work at hand that are marked alike are the same
+-- rows with the same task, reads and work in flight that are marked alike are the same
 pub row-same : {M : Type 0} (a b : SeatRow M) → a.task ≡ b.task → a.reads ≡ b.reads → a.hand ≡ b.hand → a.marked ≡ b.marked → a ≡ b
 row-same {M} a b task reads hand marked =
     ap (λ (t : Task). let it : SeatRow M = record { task = t; reads = a.reads; hand = a.hand; marked = a.marked } in it) task
@@ -70,7 +70,7 @@ module _ {C V M : Type 0} (meaning : Meaning C V M) where
   abbrev parts : Core C V M → Parts
   parts core = parts_of meaning core
 
-  -- what the engine has of a seat stays where its slot does
+  -- what the engine has of a seat stays if its slot does
   row-stays : (old new : Core C V M) (other : ℕ) (was now : Kept M) → slot_at (parts new) other ≡ slot_at (parts old) other → now ≡ was
       → row_of new other now ≡ row_of old other was
   row-stays old new other was now slot kept =
@@ -80,7 +80,7 @@ module _ {C V M : Type 0} (meaning : Meaning C V M) where
       ∙ ap (λ (n : Log Val). n.reads) (row-shown (meaning.value_of old.code) old.memory.rows other))
       (ap (λ (x : Kept M). x.hand) kept) (ap (λ (x : Kept M). x.marked) kept)
 
-  -- What a seat that has the turn made of a shell by turns of its own, and what it keeps there.
+  -- The effect of a seat's own turns on a shell, and what it keeps there.
   pub record HasPlayed (code : C) (seat : ℕ) (old : Work M) (taken : ShellView C V M) (places : List (Kept M)) (turns : List (TurnView C V M))
       (given : ShellView C V M) (kept : List (Kept M)) (now : List (TurnView C V M)) (new : Work M) (led : List (TurnView C V M)) : Type 0 where
     pub joined : now ≡ turns ++ led
@@ -122,7 +122,7 @@ module _ {C V M : Type 0} (meaning : Meaning C V M) where
           (subst (λ (w : Work M). IsPrepared meaning.is_machine meaning.stage old.core.code old.core.limits.slice w hand)
           (ap (λ (r : SeatRow M). r.hand) (found-kept row found)) is)
 
-      -- What is given once the seat has had its turns
+      -- The shell that is given once the seat has had its turns
       module _ (code : C) (work hand : Work M) (new : ShellView C V M) (after : List (Kept M)) (now led : List (TurnView C V M))
           (played : HasPlayed code seat work old places turns new after now hand led) where
         abbrev kept : Kept M

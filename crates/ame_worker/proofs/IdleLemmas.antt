@@ -35,7 +35,7 @@ replicate-at n i x = by (cases_lt i n)
     by (inl within) = get_or-replicate n i x x within
     by (inr beyond) = get_or_past (replicate n x) i x (subst (λ (m : ℕ). m ≤ i) (sym (length-replicate n x)) beyond)
 
--- of an engine of which nothing was run
+-- of an engine on which nothing was run
 pub record AreUnused (parts : Parts) : Type 0 where
   pub tasks : parts.tasks ≡ replicate parts.limits.seats Task.Idle
   pub rows : parts.memory.rows ≡ replicate parts.limits.seats no_log

@@ -77,7 +77,7 @@ module _ {C V M : Type 0} (meaning : Meaning C V M) where
       recorded = refl;
     }
 
-  -- where an engine has just started
+  -- if an engine has just started
   module _ (core : Core C V M) (code : C) (limits : Limits) (ends : Ends) (same : core.code ≡ code)
       (starts : parts_of meaning core ≡ started (meaning.program code) (meaning.signature code) limits 0)
       (fresh : state_of meaning core ≡ started_state (meaning.program code) (meaning.signature code) limits) where
@@ -119,7 +119,7 @@ module _ {C V M : Type 0} (meaning : Meaning C V M) where
             (shared-starts core code limits io.ends same starts fresh))));
       }
 
-  -- where an engine was opened from a base, whose lines were sent then
+  -- if an engine was opened from a base, whose lines were sent then
   module _ (core : Core C V M) (ends : Ends) (resumed : HasResumed meaning core.limits core.base core) where
     going : core.stop ≡ None
     going = ap (λ (s : State). s.stop) resumed.state

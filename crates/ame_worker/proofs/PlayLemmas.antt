@@ -1,4 +1,4 @@
--- What a seat that hands over has made of the shell.
+-- The shell of a seat that hands over.
 use Rattle.std.proofs.Common.{◌≡◌, ℕ, [], ◌∷◌, Option, set, refl, sym, ap, ◌∙◌, subst}
 use Rattle.std.specs.Prelude.{List}
 use Rattle.ame_machine.specs.Meaning.{Meaning}

@@ -1,4 +1,4 @@
--- What a seat did leaves the slots of the other seats.
+-- The turn of a seat leaves the slots of the other seats.
 use Rattle.std.proofs.Common.{◌≡◌, ℕ, inl, inr, List, Option, Some, None, refl, sym, ap, subst}
 use Rattle.std.specs.Prelude.{is_some}
 use Rattle.ame_device.specs.declared.told.Told.{Told}
@@ -12,7 +12,7 @@ use Rattle.ame_protocol.specs.Engine.Events.{has_begun, has_read, has_written, h
 use Rattle.ame_protocol.specs.Waits.Noted.{has_noted}
 use Rattle.ame_protocol.specs.Visits.Stops.{has_been_cut, has_grown_tall}
 use Rattle.ame_protocol.specs.Visits.Visit.{has_been_refused}
-use Rattle.ame_protocol.specs.declared.certificate.Certificate.{Certificate}
+use Rattle.ame_journal.specs.declared.certificate.Certificate.{Certificate}
 use Rattle.ame_engine.specs.declared.pick.Pick.{Pick}
 use Rattle.ame_protocol.specs.declared.counters.Counters.{Counters}
 use Rattle.ame_protocol.specs.declared.stop.Stop.{Stop}

@@ -134,7 +134,7 @@ module _ (parts : Parts) (seat : ℕ) where
   refused-stays number =
       task-stays parts (has_been_refused seat number parts) seat Task.Idle refl refl (λ other apart i has. term-home Reason.Stopped number i parts.pool)
 
-  -- Undos, of which one counts a turn while no stop is kept
+  -- Undos: one counts a turn while no stop is kept
 
   turn-stays : (mid : Parts) → SlotsStay seat parts mid → SlotsStay seat parts (undo_turn mid)
   turn-stays mid stays = by mid.stopped

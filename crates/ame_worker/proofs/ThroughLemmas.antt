@@ -1,11 +1,11 @@
--- A seat that tells that it has stopped has nothing at work, and a stop is kept.
+-- A seat that says that it has stopped has nothing at work, and a stop is kept.
 use Rattle.std.proofs.Common.{◌≡◌, ℕ, Bool, true, false, List, Option, IsSome, refl, ap, ◌∙◌, subst}
 use Rattle.std.specs.Prelude.{is_some, nat_lt, if◌then◌else◌}
 use Rattle.ame_pool.specs.declared.oldest.Oldest.{Oldest}
 use Rattle.ame_pool.specs.Begin.{oldest}
 use Rattle.ame_protocol.specs.declared.types.Task.{Task}
 use Rattle.ame_protocol.specs.Engine.Parts.{task_at}
-use Rattle.ame_protocol.specs.declared.certificate.Certificate.{Certificate}
+use Rattle.ame_journal.specs.declared.certificate.Certificate.{Certificate}
 use Rattle.ame_engine.specs.declared.pick.Pick.{Pick}
 use Rattle.ame_engine.specs.Begins.{pick_by, pick_of}
 use Rattle.ame_protocol.specs.Event.Causes.{certificates_in}
@@ -60,7 +60,7 @@ module _ {C V M : Type 0} where
   stops-so certificates (Pick.Member number) old new met is = absurd is
 
 module _ {C V M : Type 0} (meaning : Meaning C V M) where
-  -- a seat that tells that it has stopped
+  -- a seat that says that it has stopped
   pub has-stopped : (seat : ℕ) (hand : Option MachineView) (old new : ShellView C V M) (outcome : Outcome) → HasTurned meaning seat hand old new outcome
       → outcome ≡ Outcome.Stopped → RestsAtStop new.core seat
   has-stopped seat hand old new outcome turned is =

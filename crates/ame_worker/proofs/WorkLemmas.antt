@@ -1,4 +1,4 @@
--- What a worker has at hand is what it had, but for steps that its machine made alone.
+-- A worker's work in flight stays, but for steps that its machine made alone.
 use Rattle.std.proofs.Common.{ℕ, ◌+◌, ◌-◌, sym, ap, ◌∙◌, subst, arith}
 use Rattle.std.specs.Prelude.{option_and_then}
 use Rattle.ame_term.specs.Frame.{Side, side_told}

@@ -1,4 +1,4 @@
--- What is so of a seat that has the turn.
+-- A seat that has the turn.
 use Rattle.std.specs.Prelude.{◌≡◌, List}
 use Rattle.ame_machine.specs.Meaning.{Meaning}
 use Rattle.ame_protocol.specs.declared.types.Limits.{Limits}

@@ -1,4 +1,4 @@
--- How long a seat leads.
+-- The lead of a seat.
 use Rattle.std.specs.Prelude.{◌≡◌, ℕ, ◌||◌, ◌&&◌, Bool, true, false, List, [], ◌∷◌, nat_le, nat_lt, IsSome}
 use Rattle.ame_machine.specs.Meaning.{Meaning}
 use Rattle.ame_protocol.specs.declared.types.Task.{Task}
@@ -10,7 +10,7 @@ use Rattle.ame_shell.specs.declared.work.Work.TheVariants as work
 use Rattle.ame_shell.specs.Shell.{ShellView}
 use Rattle.ame_worker.specs.Turns.{TurnView, HasHadTurns}
 
--- a fragment of so many steps is work enough for others to help
+-- a fragment of this number of steps is work enough for others to help
 abbrev pub heavy : ℕ
 heavy = 100
 
@@ -33,12 +33,12 @@ pub record RestsAtStop {C V M : Type 0} (core : Core C V M) (seat : ℕ) : Type 
   pub stop : IsSome core.stop
 
 module _ {C V M : Type 0} (meaning : Meaning C V M) where
-  -- whether the fragment in flight made so many steps
+  -- whether the fragment in flight made that many steps
   abbrev pub is_heavy : C → Work M → Bool
   is_heavy code (work.Running m) = nat_le heavy (meaning.stage code m).steps
   is_heavy code _ = false
 
-  -- whether a seat that leads hands over after a turn, where there may be more members, or one is there alone
+  -- whether a seat that leads hands over after a turn, if there may be more members, or only one is there
   abbrev pub hands_over : C → ℕ → Bool → TurnView C V M → Bool
   hands_over code seats are_more t = rests t.outcome || (nat_lt 1 seats && are_more && is_heavy code t.hand)
 

@@ -1,4 +1,4 @@
--- What a seat's turns make of what the seat knows.
+-- The effect of a seat's turns on the seat's knowledge.
 use Rattle.std.specs.Prelude.{◌≡◌, ◌≢◌, ℕ, ◌++◌, ◌⊎◌, Bool, false, List, [], ◌∷◌, All, Some}
 use Rattle.ame_machine.specs.Meaning.{Meaning}
 use Rattle.ame_engine.specs.Seen.{parts_of}
@@ -19,7 +19,7 @@ use Rattle.ame_worker.specs.Turns.{TurnView, member_of_turn, Turns, AreOfSeat}
 module _ {C V M : Type 0} (meaning : Meaning C V M) where
   -- A seat took the turn, had these turns, and gave the turn. The turns that it had seen lead to the shell as it left it, those that other
   -- seats had meanwhile to the shell that it took, in which it finds its reads, inputs, undo log and start as they were, and its own to
-  -- the shell that it gave, of which its row tells.
+  -- the shell that it gave, as its row says.
   pub record HasLed (code : C) (slice : ℕ) (before after : Knows (OpenedView C V M) (SeatRow M) (TurnView C V M)) (old new : Work M)
       (led : List (TurnView C V M)) : Type 0 where
     pub keeps : KeepsSeat before after
@@ -40,7 +40,7 @@ module _ {C V M : Type 0} (meaning : Meaning C V M) where
     pub each : AreOfSeat meaning code slice before.number old led new
     pub row : after.row ≡ row_of given.core before.number (keeping given.core new)
 
-  -- A seat had one turn, which the point tells.
+  -- A seat had one turn, which the point names.
   pub record HasHadTurn (code : C) (slice : ℕ) (before after : Knows (OpenedView C V M) (SeatRow M) (TurnView C V M)) (old new : Work M)
       (point : Point) : Type 0 where
     pub turn : TurnView C V M

@@ -1,4 +1,4 @@
--- How a shell is opened that workers come to share.
+-- The opening of a shell that workers come to share.
 use Rattle.std.specs.Prelude.{◌≡◌, List, [], replicate}
 use Rattle.ame_engine.specs.Core.{Core}
 use Rattle.ame_machine.specs.Meaning.{Meaning}
@@ -10,7 +10,7 @@ use Rattle.ame_worker.specs.Shared.{OpenedView, opened_from, opening_from, IsSha
 use Rattle.ame_worker.specs.Turns.{TurnView}
 
 module _ {M K D C V : Type 0} where
-  -- A shell with this engine, sink and devices, of which nothing was sent, and a place for each seat.
+  -- A shell with this engine, sink and devices, before anything was sent, and a place for each seat.
   pub record IsAround (engine : Core C V M) (io : IoView K D) (shared : Shared M K D C V) : Type 0 where
     pub shell : shared.shell.value ≡ record { engine = engine; io = io; sent = 0 }
     pub made : shared.made.value ≡ shared.shell.value

@@ -1,9 +1,9 @@
--- What a worker tells of its turn.
+-- The points of a worker's turn.
 use Rattle.std.specs.Prelude.{ℕ, Option, unwrap_or}
 use Rattle.ame_shell.specs.declared.work.Outcome.{Outcome}
 use Rattle.ame_worker.specs.declared.gate.Point.{Point}
 
--- the point that tells what came of a turn, with the member of it
+-- the point that names a turn's outcome, with the member of it
 abbrev pub point_of : Outcome → Option ℕ → Point
 point_of Outcome.Began member = Point.Began (unwrap_or member 0)
 point_of Outcome.Waited member = Point.Idle

@@ -1,4 +1,4 @@
--- What a shared shell keeps for each seat.
+-- The rows that a shared shell keeps for its seats.
 use Rattle.std.specs.Prelude.{ℕ, Bool, false, List, [], map, slice_index_or}
 use Rattle.std.specs.List.{range_with_len}
 use Rattle.ame_rows.specs.declared.notes.ReadNote.{ReadNote}

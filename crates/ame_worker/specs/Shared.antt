@@ -1,4 +1,4 @@
--- What is so of a shell that workers share.
+-- A shell that workers share.
 use Rattle.std.specs.Prelude.{◌≡◌, ◌<◌, ℕ, true, List, length, IsSome, is_some}
 use Rattle.ame_engine.specs.Core.{Core}
 use Rattle.ame_shell.specs.declared.work.Work.{Work}
@@ -8,7 +8,7 @@ use Rattle.ame_worker.specs.Rows.{Kept, SeatRow, kept_at, rows_in}
 use Rattle.ame_worker.specs.Turns.{TurnView, Turns}
 use Rattle.ame_machine.specs.Meaning.{Meaning}
 
--- A shell as it was made, of which nothing was sent, and as it was when workers came to share it.
+-- A shell as it was made, before anything was sent, and as it was when workers came to share it.
 pub record OpenedView (C V M : Type 0) : Type 0 where
   pub made : ShellView C V M
   pub first : ShellView C V M
@@ -29,8 +29,8 @@ module _ {C V M : Type 0} where
   keeping core hand = record { hand = hand; marked = is_some core.stop }
 
 module _ {C V M : Type 0} (meaning : Meaning C V M) where
-  -- The shell is as it is from this opening on. Each seat's work in flight fits the engine still, and a stop is kept where one was. The
-  -- rows tell this of each seat, and these turns led to the shell.
+  -- The shell is as it is from this opening on. Each seat's work in flight fits the engine still, and a stop is kept if one was. The
+  -- rows say this of each seat, and these turns led to the shell.
   pub record IsShared (opened : OpenedView C V M) (shared : ShellView C V M) (places : List (Kept M)) (turns : List (TurnView C V M))
       (all : List (SeatRow M)) (told : List (TurnView C V M)) : Type 0 where
     pub shell : IsShell meaning (opening_of opened) shared

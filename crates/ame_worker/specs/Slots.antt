@@ -1,4 +1,4 @@
--- What an engine keeps for each of its seats.
+-- The slots that an engine keeps for its seats.
 use Rattle.std.specs.Prelude.{◌≡◌, ◌≢◌, ℕ, Some, None}
 use Rattle.ame_term.specs.Tree.{Val, Tree, unit_tree}
 use Rattle.ame_pool.specs.Roster.{Roster}

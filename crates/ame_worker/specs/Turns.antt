@@ -29,13 +29,13 @@ module _ {C V M : Type 0} where
   abbrev pub maker : TurnView C V M → ℕ
   maker t = t.seat
 
-  -- the member of a turn: the one that its seat had at work, else the one that it has then
+  -- the member of a turn: the one that its seat had at work, or otherwise the one that it has then
   abbrev pub member_of_turn : TurnView C V M → Option ℕ
   member_of_turn t = member_told (member_of (task_at t.old.core.tasks t.seat)) (member_of (task_at t.new.core.tasks t.seat))
 
 module _ {C V M : Type 0} (meaning : Meaning C V M) where
-  -- The seat made the one event that was due, with its lines sent, and lacked memory only where it may. What the engine keeps for each
-  -- other seat stays.
+  -- The seat made the one event that was due, with its lines sent, and ran out of memory only if it may. What the engine keeps for
+  -- each other seat stays.
   pub record IsTurn (t : TurnView C V M) : Type 0 where
     pub turned : HasTurned meaning t.seat (stage_at meaning.stage t.old.core.code t.hand) t.old t.new t.outcome
     pub lacks : LacksAsDue meaning.stage t.old.core t.seat t.hand t.outcome

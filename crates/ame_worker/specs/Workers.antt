@@ -1,4 +1,4 @@
--- What is so of a worker between its turns.
+-- A worker between its turns.
 use Rattle.ame_term.specs.Signature.{Signature}
 use Rattle.std.specs.Prelude.{◌≡◌, ◌≤◌, ◌<◌, true, false, Some, length}
 use Rattle.ame_machine.specs.Meaning.{Meaning}

@@ -1,11 +1,11 @@
-//! Where a worker has got to.
+//! The points that a worker passes.
 
-/// What a worker has done in its turn, with the number of the member.
+/// The point of a worker's turn, with the number of the member.
 #[derive(Clone, Copy, PartialEq, Eq, Debug)]
 pub enum Point {
     /// It began the member.
     Began(u64),
-    /// Anything that no other point tells.
+    /// Anything that no other point names.
     Stepped,
     /// It committed the member's fragment.
     Ran(u64),
@@ -19,18 +19,19 @@ pub enum Point {
     Stopped,
 }
 
-/// What each worker calls after each of its turns, once it has given the turn back, and one that leads after each event. It may hold the worker.
+/// A gate that each worker passes after each of its turns, once it has given the turn back. A worker that leads passes it after each event.
+/// It may hold the worker.
 pub trait Gate {
     fn pass(&self, seat: u32, point: Point);
 
-    /// Whether it may hold a worker until another one has come somewhere. Where it never does, one worker leads, and the others come once
-    /// they could help.
+    /// Returns whether it may hold a worker until another one has come somewhere. If it never does, one worker leads, and the others come
+    /// once they could help.
     fn may_hold(&self) -> bool {
         true
     }
 }
 
-/// A gate that lets everybody pass.
+/// A gate that lets every worker pass.
 #[derive(Clone, Copy)]
 pub struct NoGate;
 

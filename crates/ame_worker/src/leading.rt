@@ -17,10 +17,11 @@ use ame_machine::Runner;
 use ame_shell::{Outcome, Work, prepare_seat};
 use std::sync::Wait;
 
-/// A fragment of so many steps is work enough for others to help: it takes as long as its turns, which only one worker has at a time.
+/// From this number of steps on a fragment is work enough for others to help: it takes as long as its turns, which only one worker has at a
+/// time.
 const HEAVY: u64 = 100;
 
-/// Whether the fragment in flight made so many steps that others could help.
+/// Returns whether the fragment in flight made enough steps for others to help.
 fn is_heavy<M: Runner>(work: &Work<M>) -> bool
     ensures { (code : M.Code) → result ≡ is_heavy_by M.meaning code work.now }
 {
@@ -30,14 +31,14 @@ fn is_heavy<M: Runner>(work: &Work<M>) -> bool
     }
 }
 
-/// Whether there is nothing to lead: no ready member may begin, or a stop is kept and the seat has nothing at work.
+/// Returns whether there is nothing to lead: no ready member may begin, or a stop is kept and the seat has nothing at work.
 fn is_rest(outcome: Outcome) -> bool
     ensures { result ≡ rests outcome }
 {
     matches!(outcome, Outcome::Waited | Outcome::Stopped)
 }
 
-/// Whether something was committed.
+/// Returns whether something was committed.
 fn is_commit(outcome: Outcome) -> bool
     ensures { result ≡ commits outcome }
 {
@@ -53,7 +54,7 @@ where
 
     /// Has turns on a shell until a stop is kept and the seat has nothing at work, or no ready member may begin, or others could help:
     /// a fragment made many steps, and there may be more of them, since the run began with some (`are_more`) or one was committed.
-    /// Passes the gate after each. Tells whether a stop is kept and the seat has nothing at work.
+    /// Passes the gate after each. Returns whether a stop is kept and the seat has nothing at work.
     pub(crate) fn lead_on<R: Wait, G: Gate>(
         &mut self,
         rt: &R,

@@ -1,4 +1,4 @@
-//! Workers that share one run by passing a baton: turns, and what each row tells of them.
+//! Workers that share one run by passing a baton: turns, and the row that each leaves.
 #![tactic(auto)]
 
 mod gate;

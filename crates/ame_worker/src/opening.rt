@@ -1,4 +1,4 @@
-//! How a shell is opened that workers share.
+//! The opening of a shell that workers share.
 
 ghost use Rattle.std.specs.Prelude.{◌≡◌, ℕ, [], IfOk, IfErr, replicate};
 ghost use Rattle.std.specs.Arc.{arc_value};
@@ -21,7 +21,7 @@ use std::alloc::{AllocError, Global};
 use std::snapshot::Snapshot;
 use std::sync::Arc;
 
-/// So many places of seats that did nothing.
+/// Makes this number of places, for seats that did nothing.
 fn empty_places<M>(alloc: Global, seats: u32) -> Result<Vec<Place<M>>, AllocError>
     ensures { IfOk result (λ places. places.items ≡ replicate seats nothing_kept) }
 {
@@ -36,7 +36,8 @@ impl<M: Runner, K: Sink, D: Device> Shared<M, K, D>
 where
     M::Code: Drop,
 {
-    /// A shell with this engine, of which no line was sent, and a place for each seat. Where memory is lacking, sink and devices come back.
+    /// Makes a shell with this engine, before any line was sent, and a place for each seat. If it runs out of memory, it returns sink and
+    /// devices.
     fn around(alloc: Global, engine: Engine<M>, io: Io<K, D>) -> Result<Shared<M, K, D>, Io<K, D>>
         ensures fresh { IfOk result (IsAround engine io) }
         ensures back { IfErr result (λ back. back ≡ io) }
@@ -61,7 +62,7 @@ where
         }
     }
 
-    /// A shell that workers are about to share, of which nothing was run. Where memory is lacking, sink and devices come back.
+    /// Makes a shell that workers are about to share, before anything was run. If it runs out of memory, it returns sink and devices.
     pub fn open(
         alloc: Global,
         code: Arc<M::Code>,
@@ -79,8 +80,8 @@ where
         Shared::around(alloc, engine, io)
     }
 
-    /// A shell that workers are about to share, with an engine that goes on from a base. The lines of the base are sent; where the
-    /// sink fails, that stop is kept. Where memory is lacking, nothing was sent, and sink and devices come back.
+    /// Makes a shell that workers are about to share, with an engine that goes on from a base. It sends the lines of the base. If the
+    /// sink fails, that stop is kept. If it runs out of memory, nothing was sent, and it returns sink and devices.
     pub fn resume(
         alloc: Global,
         engine: Engine<M>,

@@ -1,4 +1,4 @@
-//! What a worker tells of its turn.
+//! The points of a worker's turn.
 
 ghost use Rattle.std.specs.Prelude.{◌≡◌};
 ghost use Rattle.ame_worker.specs.Points.{point_of};
@@ -6,7 +6,7 @@ ghost use Rattle.ame_worker.specs.Points.{point_of};
 use crate::gate::Point;
 use ame_shell::{Outcome, Turn};
 
-/// The point that tells a turn.
+/// Returns the point that names a turn.
 pub(crate) fn point_of(turn: Turn) -> Point
     ensures { result ≡ point_of turn.outcome turn.member }
 {

@@ -16,7 +16,7 @@ use ame_trace::Trace;
 use std::marker::Model;
 use std::snapshot::Snapshot;
 
-/// What is kept for a seat that gives the turn: its work in flight, as contracts see it, and whether a stop was kept then.
+/// The place of a seat that gives the turn: its work in flight, as contracts see it, and whether a stop was kept then.
 #[derive(Drop)]
 pub struct Place<M> {
     hand: Snapshot<Work<M>>,
@@ -63,7 +63,7 @@ where
 {
     ghost use Rattle.ame_worker.specs.Turns.{turn_by, HasJoined};
 
-    /// The shell, which nobody shares any more.
+    /// Returns the shell, which no worker shares any more.
     pub fn into_shell(self) -> Shell<M, K, D>
         ensures { result ≡ self.shell.value }
     {
@@ -76,7 +76,7 @@ where
         Box::into_inner(shell)
     }
 
-    /// One event of a seat that has the turn, which joins the turns.
+    /// Makes one event of a seat that has the turn. It joins the turns.
     pub(crate) fn play(&mut self, code: &M::Code, seat: u32, work: &mut Work<M>) -> Turn
         requires may { MayTurn M.meaning code.now seat (shell_view self.old.shell.value) work.old }
         ensures joins { HasJoined M.meaning (turn_by seat work.old (shell_view self.old.shell.value) result.outcome (shell_view self.new.shell.value))
@@ -104,7 +104,7 @@ where
     }
 }
 
-/// How a shell came to be shared. No value of it is made.
+/// The opening of a shared shell. No value of it is made.
 pub struct Opened<M: Runner, K: Sink, D: Device>
 where
     M::Code: Drop,
@@ -128,7 +128,7 @@ where
     } };
 }
 
-/// What is kept for a seat, and what the engine has of it. No value of it is made.
+/// The row of a seat: what is kept for it, and what the engine has of it. No value of it is made.
 pub struct SeatRow<M> {
     hand: Snapshot<Work<M>>,
 }

@@ -36,7 +36,7 @@ where
     ghost view = { λ t. turn_by t.seat t.hand.value (shell_view t.old.value) t.outcome (shell_view t.new.value) };
 }
 
-/// What a turn of a seat begins with, as contracts see it.
+/// The begin of a seat's turn, as contracts see it.
 #[derive(Drop)]
 pub(crate) struct Before<M: Runner, K: Sink, D: Device>
 where
@@ -61,7 +61,7 @@ where
         }
     }
 
-    /// The turn of a seat from here to this shell.
+    /// Makes the turn of a seat from here to this shell.
     pub fn to(self, seat: u32, outcome: Outcome, shell: &Shell<M, K, D>) -> TurnRecord<M, K, D>
         ensures { result ≡ turn_by seat self.hand.value (shell_view self.shell.value) outcome (shell_view shell.now) }
     {

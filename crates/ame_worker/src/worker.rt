@@ -53,10 +53,10 @@ where
     }
 }
 
-/// What came of a worker's call for a turn.
+/// The answer to a worker's call for a turn.
 #[derive(Clone, Copy, PartialEq, Eq, Debug)]
 pub enum Turned {
-    /// It had a turn, and made the event that the point tells.
+    /// It had a turn, and made the event that the point names.
     Did(Point),
     /// Another seat had the turn. Nothing of the shared shell changed.
     Busy(Elsewhere),
@@ -66,7 +66,7 @@ impl<M: Runner, K: Sink, D: Device> Worker<M, K, D>
 where
     M::Code: Drop,
 {
-    /// A worker for a seat that has nothing at work. Takes no memory.
+    /// Makes a worker for a seat that has nothing at work. Takes no memory.
     pub fn new(seat: Seat<Shared<M, K, D>>, code: Arc<M::Code>, limits: Limits) -> Worker<M, K, D>
         requires seated { IsSeated M.meaning.signature (arc_value code) limits (knows seat) }
         requires free { (knows seat).holds ≡ false }
@@ -104,8 +104,8 @@ where
         baton.give::<AnyRow, R>(rt, &mut self.seat, shared);
     }
 
-    /// The worker's machine makes steps, without the turn. Then, if the turn is there, it makes one event of its seat and gives the
-    /// turn back, and passes the gate. It doesn't wait for the turn.
+    /// Runs the worker's machine, without the turn. Then, if the turn is there, it makes one event of the seat, gives the turn back, and
+    /// passes the gate. It doesn't wait for the turn.
     pub fn turn<R: Wait, G: Gate>(
         &mut self,
         rt: &R,
@@ -142,7 +142,7 @@ where
     }
 
     /// Has turns while no other worker has any, and holds the turn from the first to the last: until a stop is kept and its seat has
-    /// nothing at work, which it tells, or no ready member may begin, or until others could help: a fragment made many steps, and there
+    /// nothing at work, which it returns, or no ready member may begin, or until others could help: a fragment made many steps, and there
     /// may be more of them, since the run began with some (`are_more`) or one was committed. Passes the gate after each.
     pub fn lead<R: Wait, G: Gate>(
         &mut self,
@@ -170,7 +170,7 @@ where
         is_over
     }
 
-    /// Has turns until a stop is kept and its seat has nothing at work. It may wait, and sleeps where that takes long.
+    /// Has turns until a stop is kept and its seat has nothing at work. It may wait, and sleeps if that takes long.
     pub fn work<R: Wait, G: Gate>(
         &mut self,
         rt: &R,
@@ -198,7 +198,7 @@ where
         unreachable!()
     }
 
-    /// The worker's seat.
+    /// Returns the worker's seat.
     pub fn seat(self) -> Seat<Shared<M, K, D>>
         ensures { result ≡ self.seat }
     {

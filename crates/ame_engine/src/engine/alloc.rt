@@ -1,4 +1,4 @@
-//! How a seat makes a cell.
+//! New cells of seats.
 
 ghost use Rattle.std.specs.Prelude.{◌≡◌, ◌<◌, IfOk, OnOk, OnErr, Some, None, false, length};
 ghost use Rattle.ame_term.specs.Tree.{Val};

@@ -1,4 +1,4 @@
-//! How a seat begins a member.
+//! Beginnings of members on a seat.
 
 ghost use Rattle.std.specs.Prelude.{◌≡◌, ◌<◌, ◌++◌, ℕ, Some, None, IfOk, OnOk, OnErr, IsTrue};
 ghost use Rattle.ame_pool.specs.Members.{is_ready};
@@ -24,7 +24,7 @@ use ame_machine::Runner;
 use ame_protocol::{Attempt, Stop, Task, Tried};
 use ame_term::NoMemory;
 
-/// An attempt of a member that begins after these entries.
+/// Returns the attempt of a member that begins after these entries.
 fn attempt_now(number: u64, base: &[Entry], entries: &[Entry]) -> Attempt
     ensures { result ≡ attempt_after number (base.now ++ entries.now) }
 {
@@ -38,7 +38,7 @@ fn attempt_now(number: u64, base: &[Entry], entries: &[Entry]) -> Attempt
     }
 }
 
-/// The task of a seat that begins a member, which is inside or not.
+/// Returns the task of a seat that begins a member, which is inside or not.
 fn begun_task(inside: bool, attempt: Attempt) -> Task
     ensures { result ≡ task_begun inside attempt }
 {
@@ -53,7 +53,7 @@ impl<M: Runner> Engine<M>
 where
     M::Code: Drop,
 {
-    /// What a seat would meet that begins now.
+    /// Returns what a seat would meet if it began a member now.
     fn pick(&self) -> Pick
         ensures pick { result ≡ pick_of self.now }
         ensures oldest { (number : ℕ) → result ≡ Pick.Member number → oldest_of self.now.pool ≡ Oldest.Member number }
@@ -67,7 +67,7 @@ where
         pick_by(self.turns >= self.limits.turns, self.pool.oldest())
     }
 
-    /// Where a seat is idle, and it is the only one, no row is left that would leave a try.
+    /// Says that no row is left that would leave an attempt without an entry, if a seat is idle and it is the only one.
     fn idle_seats_leave_no_try(&self, seat: u32)
         requires seat { seat < self.now.limits.seats }
         requires idle { task_at self.now.tasks seat ≡ Task.Idle }
@@ -77,7 +77,7 @@ where
         let _ = &self.turns;
     }
 
-    /// A seat begins a ready member, and runs a copy of its machine. There is a place then for the try of each seat.
+    /// Begins a ready member on a seat, and returns a copy of its machine. Then the attempts have a free place for each seat.
     fn begin_member(&mut self, seat: u32, number: u64) -> Result<M, NoMemory>
         requires seat { seat < self.old.limits.seats }
         requires idle { task_at self.old.tasks seat ≡ Task.Idle }
@@ -89,7 +89,7 @@ where
         ensures err { OnErr result (self.new ≡ self.old) }
     {
         self.tried.reserve(self.limits.seats as usize)?;
-        let attempt = attempt_now(number, self.base.entries(), self.journal.entries());
+        let attempt = attempt_now(number, self.base.entries(), self.ledger.journal.entries());
         let copy = self.pool.copy(*self.tasks.allocator(), number)?;
         self.pool.begin(number);
         self.tasks[seat as usize] = begun_task(copy.inside, attempt);
@@ -98,11 +98,10 @@ where
         Ok(copy.machine)
     }
 
-    /// A seat begins the oldest ready member that may begin, and runs the machine that it is given. A turn is counted where a
-    /// member begins. Where no member is left, all are parked or the turns are used up, that stop is kept, with what tells it of
-    /// each parked one. Takes memory for the copy of a machine and for places in the tries, where a member begins, and for what
-    /// is told, where all are parked. It takes the time of the pool's logarithm and of a copy, but where all are parked that of the
-    /// entries and of the numbers that were given.
+    /// Begins the oldest ready member that may begin, and returns its machine. Counts a turn if a member begins. If no member is left, all
+    /// are parked or the turns are used up, keeps that stop, with the certificates of parked members. Takes memory for the copy of a
+    /// machine and for places of attempts if a member begins, and for the certificates if all members are parked. It takes the time of the
+    /// pool's logarithm and of a copy. If all members are parked, it takes that of the entries and of the numbers that were given.
     pub fn begin(&mut self, seat: u32) -> Result<Begin<M>, NoMemory>
         requires seat { seat < self.old.limits.seats }
         requires idle { task_at self.old.tasks seat ≡ Task.Idle }

@@ -1,4 +1,4 @@
-//! How a seat notes that its member came to a condition that is false.
+//! Notes of members that came to a condition that is false.
 
 ghost use Rattle.std.specs.Prelude.{◌≡◌, ◌<◌, ◌↔◌, IfOk, OnOk, OnErr, Ok, None, map};
 ghost use Rattle.ame_rows.specs.declared.notes.Bad.{Bad};
@@ -12,7 +12,8 @@ ghost use Rattle.ame_engine.specs.Makes.{Makes, MakesAt};
 ghost use Rattle.ame_engine.specs.AtWork.{IsOn, IsBlocking};
 
 use super::Engine;
-use super::notes::{note_of, told};
+use super::ledger::entry_of;
+use super::notes::told;
 use super::turn::Setback;
 use crate::answer::Noted;
 use ame_journal::EntryKind;
@@ -22,7 +23,7 @@ use ame_rows::ReadNote;
 use ame_term::{Loc, NoMemory};
 use std::alloc::Global;
 
-/// The locations of logged reads.
+/// Returns the locations of logged reads.
 fn read_locations(alloc: Global, reads: &[ReadNote]) -> Result<Vec<Loc>, NoMemory>
     ensures { IfOk result (λ locs. map (λ l. l.0) locs.items ≡ read_places reads.now) }
 {
@@ -51,20 +52,20 @@ where
     {
         let alloc = *self.tasks.allocator();
         let number = attempt.tried.number;
-        let entry = note_of(alloc, EntryKind::Stuck, seat, number, at)?;
+        let entry = entry_of(alloc, EntryKind::Stuck, seat, number, at)?;
         let locs = read_locations(alloc, self.memory.row(seat).reads())?;
-        self.journal.room()?;
+        self.ledger.journal.room()?;
         self.pool.note(number, locs)?;
-        self.journal.push(entry);
+        self.ledger.journal.push(entry);
         self.tasks[seat as usize] = Task::Undoing(told(attempt), Reason::Noted);
         self.turns += 1;
         self.counters.blocks += 1;
         Ok(())
     }
 
-    /// Notes the row of a seat whose machine has come to a condition that is false: an entry joins the journal, the member
-    /// watches the locations that its row read, and the row is to be undone. Where a read isn't valid the seat turns back
-    /// instead. Counts a turn. Takes memory where all reads are valid, all of it before the first change.
+    /// Notes the row of a seat whose machine has come to a condition that is false. An entry joins the journal, the member watches the
+    /// locations that its row read, and the row is to be undone. If a read isn't valid the seat turns back instead. Counts a turn. Takes
+    /// memory only if all reads are valid, and all of it before the first change.
     pub fn block(&mut self, seat: u32, at: &M) -> Result<Noted, NoMemory>
         requires on { IsOn M.meaning self.old seat at.now }
         requires blocks { IsBlocking (M.meaning.stage self.old.code at.now) }

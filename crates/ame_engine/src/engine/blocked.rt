@@ -1,4 +1,4 @@
-//! How an engine tells that all members are blocked: one certificate a member, in order of their numbers.
+//! The certificates that all members are blocked: one certificate a member, in order of their numbers.
 
 ghost use Rattle.std.specs.Prelude.{◌≡◌, ◌<◌, ◌++◌, ◌&&◌, ℕ, nat_lt, All, Some, None, IfOk, OnOk, OnErr, length, map, replicate, slice_get, slice_set, slice_index_or, option_and_then, option_copied, if◌then◌else◌};
 ghost use Rattle.ame_journal.specs.Replay.{or_else};
@@ -11,13 +11,13 @@ ghost use Rattle.ame_engine.specs.Seen.{parts_of};
 ghost use Rattle.ame_engine.specs.Stops.{blocked_by};
 
 use super::Engine;
-use ame_journal::{Entry, EntryKind};
+use ame_journal::{Certificate, Entry, EntryKind};
 use ame_machine::Runner;
-use ame_protocol::{Certificate, Stop};
+use ame_protocol::Stop;
 use ame_term::{Locs, NoMemory};
 use std::alloc::Global;
 
-/// Whether entries of a kind note that a member came to a condition that is false.
+/// Returns whether entries of a kind note that a member came to a condition that is false.
 fn is_stuck(kind: EntryKind) -> bool
     ensures { result ≡ is_stuck_kind kind }
 {
@@ -27,7 +27,7 @@ fn is_stuck(kind: EntryKind) -> bool
     }
 }
 
-/// So many places that are empty.
+/// Returns this number of empty places.
 fn no_places(alloc: Global, count: u64) -> Result<Vec<Option<usize>>, NoMemory>
     ensures { IfOk result (λ places. places.items ≡ replicate count None) }
 {
@@ -38,7 +38,7 @@ fn no_places(alloc: Global, count: u64) -> Result<Vec<Option<usize>>, NoMemory>
     Ok(places)
 }
 
-/// An entry that is such a note is the last one of its member, if the member's number has a place.
+/// Marks an entry that is such a note as the last one of its member, if the member's number has a place.
 fn mark(places: &mut Vec<Option<usize>>, i: usize, entry: &Entry)
     ensures { places.new.items ≡ (if is_stuck_kind entry.now.kind && nat_lt entry.now.number (length places.old.items)
         then slice_set places.old.items entry.now.number (Some i) else places.old.items) }
@@ -48,7 +48,7 @@ fn mark(places: &mut Vec<Option<usize>>, i: usize, entry: &Entry)
     }
 }
 
-/// Where the last such note of each member stands, by the member's number, for so many members.
+/// Returns the place of the last such note of each member, by the member's number, for this number of members.
 fn note_places(alloc: Global, count: u64, entries: &[Entry]) -> Result<Vec<Option<usize>>, NoMemory>
     ensures count { IfOk result (λ places. length places.items ≡ count) }
     ensures told { IfOk result (λ places. (number : ℕ) → number < count
@@ -61,7 +61,7 @@ fn note_places(alloc: Global, count: u64, entries: &[Entry]) -> Result<Vec<Optio
     Ok(places)
 }
 
-/// The last such note of a member, by where the notes stand.
+/// Returns the last such note of a member, by the places of the notes.
 fn last_note<'a>(number: u64, places: &[Option<usize>], entries: &'a [Entry]) -> Option<&'a Entry>
     requires number { number < length places.now }
     requires told { option_and_then (λ i. slice_get entries.now i) (slice_index_or places.now number None) ≡ last_stuck number entries.now }
@@ -73,7 +73,7 @@ fn last_note<'a>(number: u64, places: &[Option<usize>], entries: &'a [Entry]) ->
     }
 }
 
-/// The first of two notes that is there.
+/// Returns the later of two notes, if any.
 fn later_note<'a>(later: Option<&'a Entry>, earlier: Option<&'a Entry>) -> Option<&'a Entry>
     ensures { option_copied result ≡ or_else (option_copied later.entry) (option_copied earlier.entry) }
 {
@@ -83,7 +83,7 @@ fn later_note<'a>(later: Option<&'a Entry>, earlier: Option<&'a Entry>) -> Optio
     }
 }
 
-/// The same in a base and a journal.
+/// Returns the last such note of a member in a base and a journal.
 fn last_note_of<'a>(
     number: u64,
     in_base: &[Option<usize>],
@@ -103,7 +103,7 @@ fn last_note_of<'a>(
     )
 }
 
-/// A note as a certificate.
+/// Returns a note as a certificate.
 fn certificate_of(alloc: Global, number: u64, note: &Entry) -> Result<Certificate, NoMemory>
     ensures { IfOk result (λ certificate. certificate ≡ certificate_told number note.now) }
 {
@@ -116,7 +116,7 @@ fn certificate_of(alloc: Global, number: u64, note: &Entry) -> Result<Certificat
     })
 }
 
-/// A certificate more, where a note was found.
+/// Adds a certificate if a note was found.
 fn add(
     certificates: &mut Vec<Certificate>,
     alloc: Global,
@@ -131,7 +131,7 @@ fn add(
     Ok(())
 }
 
-/// The last notes of members with these numbers, each below a count, in a base and a journal.
+/// Returns the last notes, in a base and a journal, of members with these numbers. Each number is below the count.
 fn certificates_of(
     alloc: Global,
     count: u64,
@@ -162,7 +162,7 @@ impl<M: Runner> Engine<M>
 where
     M::Code: Drop,
 {
-    /// The numbers of the members, which rise.
+    /// Returns the numbers of the members, which rise.
     fn numbers(&self) -> Result<Vec<u64>, NoMemory>
         ensures numbers { IfOk result (λ numbers. numbers.items ≡ map (λ m. m.number) self.now.pool.members) }
         ensures below { IfOk result (λ numbers. All (λ number. number < self.now.next) numbers.items) }
@@ -176,7 +176,7 @@ where
         Ok(numbers)
     }
 
-    /// Keeps that all members are parked, with what tells it. Takes memory.
+    /// Keeps the stop that all members are parked, with the certificates. Takes memory.
     pub(super) fn keep_blocked(&mut self) -> Result<(), NoMemory>
         requires going { self.old.stop ≡ None }
         requires parked { oldest_of self.old.pool ≡ Oldest.Parked }
@@ -191,7 +191,7 @@ where
             self.next,
             numbers.as_slice(),
             self.base.entries(),
-            self.journal.entries(),
+            self.ledger.journal.entries(),
         )?;
         self.stop = Some(Stop::Blocked);
         self.certificates = certificates;

@@ -1,4 +1,4 @@
-//! How the reads of a seat are checked.
+//! Checks of a seat's reads.
 
 ghost use Rattle.std.specs.Prelude.{◌≡◌, ◌<◌, ◌++◌, ◌↔◌, None, length, false};
 ghost use Rattle.ame_rows.specs.declared.notes.Bad.{Bad};
@@ -17,7 +17,7 @@ use ame_journal::Entry;
 use ame_machine::Runner;
 use ame_protocol::{Attempt, Task, Tried};
 
-/// An attempt whose row was found valid after so many steps and these entries.
+/// Returns the attempt whose row was found valid after these steps and entries.
 fn checked_attempt(attempt: Attempt, steps: u64, base: &[Entry], entries: &[Entry]) -> Attempt
     ensures { result ≡ record attempt { tried = record attempt.tried { at = length (base.now ++ entries.now); steps = steps } } }
 {
@@ -35,8 +35,8 @@ impl<M: Runner> Engine<M>
 where
     M::Code: Drop,
 {
-    /// Whether each read of a seat that runs protected code is valid, once its machine has made a slice of steps. The seat keeps
-    /// the steps and the number of entries where it is; else it turns back. Counts a turn, and takes no memory.
+    /// Returns whether each read of a seat that runs protected code is valid, once its machine has made a slice of steps. If so, the seat
+    /// keeps the steps and the number of entries. Otherwise it turns back. Counts a turn, and takes no memory.
     pub fn check(&mut self, seat: u32, at: &M) -> Checked
         requires on { IsOn M.meaning self.old seat at.now }
         requires outside { (M.meaning.stage self.old.code at.now).inside ≡ false }
@@ -60,7 +60,7 @@ where
                     attempt,
                     steps,
                     self.base.entries(),
-                    self.journal.entries(),
+                    self.ledger.journal.entries(),
                 );
                 self.tasks[seat as usize] = Task::Running(later);
                 self.turns += 1;

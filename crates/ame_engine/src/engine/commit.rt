@@ -1,4 +1,4 @@
-//! How a seat commits.
+//! Commits of seats.
 
 ghost use Rattle.std.specs.Prelude.{◌≡◌, ◌<◌, ◌↔◌, IfOk, OnOk, OnErr, Ok, Some, None};
 ghost use Rattle.ame_rows.specs.declared.notes.Bad.{Bad};
@@ -16,15 +16,13 @@ ghost use Rattle.ame_engine.specs.Committing.{IsCommitting, ends_at, leaves_at};
 use super::Engine;
 use super::turn::Setback;
 use crate::answer::Noted;
-use ame_io::lines_of;
+use ame_journal::EntryKind;
 use ame_machine::Runner;
 use ame_protocol::{Attempt, Task};
 use ame_term::NoMemory;
-use members::{join_all, send_on, wake_all};
-use taken::{append, entry_of, make_room, number_after};
+use members::{join_all, make_places, send_on, wake_all};
 
 pub(super) mod members;
-pub(super) mod taken;
 
 impl<M: Runner> Engine<M>
 where
@@ -47,23 +45,11 @@ where
         let alloc = *self.tasks.allocator();
         let number = attempt.tried.number;
         let owned = self.memory.owned(alloc, seat)?;
-        let entry = entry_of(alloc, seat, number, &at)?;
-        let bytes = lines_of(alloc, at.prints())?;
-        let count = at.spawns();
-        let next = number_after(self.next, count)?;
-        make_room(
-            &mut self.output,
-            at.prints().len(),
-            &mut self.text,
-            bytes.len(),
-            &mut self.journal,
-        )?;
-        self.pool.room(count)?;
+        let draft = self.ledger.draft(EntryKind::Ran, seat, number, &at)?;
+        let next = make_places(&mut self.pool, self.next, at.spawns())?;
         self.memory.release_all(seat);
         wake_all(&mut self.pool, owned.as_slice());
-        append(&mut self.output, at.prints());
-        append(&mut self.text, bytes.as_slice());
-        self.journal.push(entry);
+        self.ledger.append(draft, at.prints());
         join_all(&mut self.pool, alloc, self.next, next, &mut at);
         send_on(&mut self.pool, number, at);
         self.next = next;
@@ -73,10 +59,10 @@ where
         Ok(())
     }
 
-    /// Commits the row of a seat whose machine has ended, or has come to `unprotected`: its cells are released and who waits
-    /// for them is woken, its prints join the output, an entry the journal and its new members the pool, and its member is gone,
-    /// or goes on inside. Where a read isn't valid the seat turns back instead. Counts a turn. Takes memory where all reads are
-    /// valid, all of it before the first change, and lacks it also where no number is left for a new member.
+    /// Commits the row of a seat whose machine has ended, or has come to `unprotected`. The seat's cells are released, and the members that
+    /// wait for them are woken. The prints join the output, an entry the journal, and the new members the pool. The seat's member is gone,
+    /// or goes on inside. If a read isn't valid the seat turns back instead. Counts a turn. Takes memory only if all reads are valid, and
+    /// all of it before the first change. Is out of memory also if the number of a new member would have more than 64 bits.
     pub fn commit(&mut self, seat: u32, at: M) -> Result<Noted, NoMemory>
         requires on { IsOn M.meaning self.old seat at }
         requires commits { IsCommitting (M.meaning.stage self.old.code at) }

@@ -1,4 +1,4 @@
-//! How an engine is taken apart.
+//! The end of an engine, which is taken apart.
 
 ghost use Rattle.std.specs.Prelude.{◌≡◌, ℕ, IsSome};
 ghost use Rattle.ame_protocol.specs.declared.types.Task.{Task};
@@ -6,6 +6,7 @@ ghost use Rattle.ame_protocol.specs.Engine.Parts.{task_at};
 ghost use Rattle.ame_engine.specs.Ending.{end_of, IsEnd};
 
 use super::Engine;
+use super::ledger::Ledger;
 use crate::ended::Ended;
 use ame_machine::Runner;
 
@@ -13,7 +14,7 @@ impl<M: Runner> Engine<M>
 where
     M::Code: Drop,
 {
-    /// What an engine has whose seats are idle, once a stop is kept. Takes no memory.
+    /// Takes an engine apart whose seats are idle, once a stop is kept. Takes no memory.
     pub fn finish(self) -> Ended<M::Value>
         requires idle { (seat : ℕ) → task_at self.tasks seat ≡ Task.Idle }
         requires stopped { IsSome self.stop }
@@ -24,12 +25,10 @@ where
             code: _,
             limits,
             base,
-            journal,
+            ledger,
             memory,
             tasks: _,
             pool: _,
-            output,
-            text: _,
             next: _,
             turns,
             counters,
@@ -37,6 +36,11 @@ where
             stop,
             certificates,
         } = self;
+        let Ledger {
+            journal,
+            output,
+            text: _,
+        } = ledger;
         Ended {
             limits,
             base,

@@ -1,4 +1,4 @@
-//! How a seat visits a member that is inside `unprotected`.
+//! Visits of members that are inside `unprotected`.
 
 ghost use Rattle.std.specs.Prelude.{◌≡◌, ◌<◌, ◌+◌, ◌≤◌, ◌^◌, ℕ, OnErr, Ok, None, vec_len};
 ghost use Rattle.ame_device.specs.Calls.{all_told};
@@ -24,12 +24,11 @@ impl<M: Runner> Engine<M>
 where
     M::Code: Drop,
 {
-    /// Ends the visit of a seat where its machine stands. The step that the machine wants, if it wants one, is made on the
-    /// committed state: a read, a peek, a write, a new cell, a print, a new member, the close, or the call of a device, which is
-    /// the only call of the visit. An entry tells the visit, and the member is home with the settled machine, inside unless it
-    /// closed. Where the device fails there is no entry, the member is home as it was begun, and that stop is kept.
-    /// Counts a turn. Takes memory, all of it before the first change and before the device is called; and lacks it also
-    /// where no number is left for a new member.
+    /// Ends the visit of a seat at the place of its machine. The step that the machine wants, if any, is made on the committed state: a
+    /// read, a peek, a write, a new cell, a print, a new member, the close, or the call of a device, which is the only call of the visit.
+    /// An entry records the visit, and the member is home with the settled machine, inside unless it closed. If the device fails there is
+    /// no entry, the member is home as it was begun, and that stop is kept. Counts a turn. Takes memory, all of it before the first change
+    /// and before the device is called. Is out of memory also if the number of a new member would have more than 64 bits.
     pub fn free<D: Device>(
         &mut self,
         seat: u32,

@@ -1,4 +1,4 @@
-//! What is so of each engine.
+//! Facts of each engine.
 
 ghost use Rattle.std.specs.Prelude.{◌≡◌, ◌≤◌, All, IsTrue};
 ghost use Rattle.std.specs.List.{list_any};
@@ -18,15 +18,15 @@ impl<M: Runner> Engine<M>
 where
     M::Code: Drop,
 {
-    /// Each engine stands for the state to which its journal leads.
+    /// Says that each engine stands for the state to which its journal leads.
     pub fn stands(&self)
         ensures { Simulates (parts_of M.meaning self.now) }
     {
         let _ = &self.turns;
     }
 
-    /// In each engine no member was rolled back more often than it may be, and one that was so as often runs alone. It meets no
-    /// cell of another seat, and until a stop is kept its reads are valid. So it isn't rolled back again before its next entry.
+    /// Says that no member was rolled back more often than it may be, and that a member that was rolled back that often runs alone. It
+    /// meets no cell of another seat, and until a stop is kept its reads are valid. So it isn't rolled back again before its next entry.
     pub fn members_are_rolled_back_seldom(&self)
         ensures few { All (λ m. m.rollbacks ≤ max_rollbacks) self.now.pool.members }
         ensures alone { RunsExclusively (parts_of M.meaning self.now) }
@@ -35,14 +35,14 @@ where
         let _ = &self.turns;
     }
 
-    /// In each engine each busy member is one that a seat has at work.
+    /// Says that each busy member is at work on a seat.
     pub fn busy_members_are_seated(&self)
         ensures { AreSeated (parts_of M.meaning self.now) }
     {
         let _ = &self.turns;
     }
 
-    /// In each engine some member is busy where members are left that may not begin and aren't all parked.
+    /// Says that some member is busy if members are left that may not begin and aren't all parked.
     pub fn who_waits_waits_for_somebody(&self)
         ensures busy { oldest self.now.pool ≡ Oldest.Wait → IsTrue (list_any is_busy self.now.pool.members) }
     {

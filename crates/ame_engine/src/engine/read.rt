@@ -1,4 +1,4 @@
-//! How a seat reads.
+//! Reads of seats.
 
 ghost use Rattle.std.specs.Prelude.{◌≡◌, ◌<◌, All, IfOk, OnOk, OnErr, Some, None, false};
 ghost use Rattle.ame_term.specs.declared.types.Loc.{Loc};
@@ -21,7 +21,7 @@ use ame_machine::{Runner, Wants};
 use ame_rows::Memory;
 use ame_term::NoMemory;
 
-/// Each cell's number is even exactly where it has no owner.
+/// Says that each cell's number is even exactly if it has no owner.
 fn numbers_tell_owners<V>(memory: &Memory<V>)
     ensures { All HasItsParity memory.now.cells }
 {
@@ -32,9 +32,9 @@ impl<M: Runner> Engine<M>
 where
     M::Code: Drop,
 {
-    /// The value in place where the machine of a seat wants to read, whoever owns the cell. A cell that the seat doesn't own
-    /// is logged with its number. No stop is kept, and the slice isn't full. Counts a turn. Takes memory for the logs and the copy of
-    /// a value.
+    /// Returns the value in place at the location that the machine of a seat wants to read, with or without an owner of the cell. A cell
+    /// that the seat doesn't own is logged with its number. No stop is kept, and the slice isn't full. Counts a turn. Takes memory for the
+    /// logs and the copy of a value.
     pub fn read(&mut self, seat: u32, at: &M) -> Result<M::Value, NoMemory>
         requires on { IsOn M.meaning self.old seat at.now }
         requires reads { IsReading (M.meaning.stage self.old.code at.now) }

@@ -1,4 +1,4 @@
-//! How an engine goes on from a base.
+//! An engine that continues from a base.
 
 ghost use Rattle.std.specs.Prelude.{◌≡◌, ◌<◌, ℕ, All, IfErr, IfOk, MatchOption, IsTrue, Some, Err, false};
 ghost use Rattle.std.specs.Arc.{arc_value};
@@ -12,6 +12,7 @@ ghost use Rattle.ame_engine.specs.Whole.{AreLimits};
 ghost use Rattle.ame_engine.specs.Resuming.{AreActs, IsNear, IsFar, FailsToResume, HasResumed};
 
 use super::Engine;
+use super::ledger::Ledger;
 use super::start::idle_tasks;
 use crate::resume_fail::ResumeFail;
 use ame_check::{Halt, Replay};
@@ -28,13 +29,11 @@ use std::sync::Arc;
 mod cells;
 mod members;
 
-use cells::cells_of;
+use cells::MOST_CELLS;
+pub use cells::cells_of;
 use members::pool_of;
 
-/// The most cells with which an engine goes on.
-const MOST_CELLS: u32 = 4_000_000;
-
-/// Whether an engine has cells for the new locations of an entry.
+/// Returns whether an engine has cells for the new locations of an entry.
 fn is_near(entry: &Entry) -> bool
     ensures yes { IsTrue result → IsNear entry.now }
     ensures no { result ≡ false → IsNear entry.now → ⊥ }
@@ -47,7 +46,7 @@ fn is_near(entry: &Entry) -> bool
     true
 }
 
-/// The first entry for whose new locations an engine has no cells.
+/// Returns the place of the first entry for whose new locations an engine has no cells.
 fn first_far(base: &[Entry]) -> Option<u64>
     ensures { MatchOption result (All IsNear base.now) (IsFar base.now) }
 {
@@ -65,7 +64,7 @@ impl<M: Runner> Engine<M>
 where
     M::Code: Drop,
 {
-    /// An engine that has the state of a replay of its base.
+    /// Returns an engine that has the state of a replay of its base.
     fn at_end(
         alloc: Global,
         code: Arc<M::Code>,
@@ -75,14 +74,13 @@ where
     ) -> Result<Engine<M>, NoMemory>
         requires limits { AreLimits limits }
         requires base { AreActs base.entries }
-        requires near { All IsNear base.entries }
         requires led { StandsForEntries M.meaning (arc_value code) base.entries
             (record { cells = replay.cells.entries; members = replay.members.entries; output = replay.output.items; next = replay.next }) }
         ensures code { IfOk result (λ engine. engine.code ≡ arc_value code) }
         ensures state { IfOk result (HasResumed M.meaning limits base.entries) }
     {
         let (cells, members, output, next) = replay.into_parts();
-        // What takes most code to drop comes last, where the fewest steps can still fail.
+        // The values that take most code to drop come last, after most steps that can fail.
         let text = lines_of(alloc, output.as_slice())?;
         let tasks = idle_tasks(alloc, limits.seats)?;
         let store = Store::from_cells(cells_of(alloc, cells)?);
@@ -92,12 +90,14 @@ where
             code,
             limits,
             base,
-            journal: Journal::new(alloc),
+            ledger: Ledger {
+                journal: Journal::new(alloc),
+                output,
+                text,
+            },
             memory,
             tasks,
             pool,
-            output,
-            text,
             next,
             turns: 0,
             counters: Counters::new(),
@@ -107,9 +107,9 @@ where
         })
     }
 
-    /// An engine that goes on from a base: it has the state to which the base leads, all members are ready in order of their
-    /// numbers, and all seats are idle. Costs a run of the base, with the logarithm of cells and members for each access, and its
-    /// greatest location.
+    /// Returns an engine that continues from a base. It has the state to which the base leads, all members are ready in order of their
+    /// numbers, and all seats are idle. Costs a run of the base, with the logarithm of cells and members for each access, and its greatest
+    /// location.
     pub fn resume(
         alloc: Global,
         code: Arc<M::Code>,

@@ -1,4 +1,4 @@
-//! How an engine stops whose turns are used up.
+//! The stop of an engine whose turns are used up.
 
 ghost use Rattle.std.specs.Prelude.{◌≡◌, IfOk, OnOk, OnErr, IsSome, IsTrue, ◌↔◌, Ok, Some, None, is_some};
 ghost use Rattle.std.specs.Option.{ForSome};
@@ -15,7 +15,8 @@ ghost use Rattle.ame_engine.specs.AtWork.{IsOn};
 ghost use Rattle.ame_protocol.specs.Event.Bounds.{LeavesNoTry};
 
 use super::Engine;
-use super::notes::{note_of, told_task};
+use super::ledger::entry_of;
+use super::notes::told_task;
 use super::undo::attempt_at;
 use ame_journal::EntryKind;
 use ame_machine::Runner;
@@ -26,8 +27,8 @@ impl<M: Runner> Engine<M>
 where
     M::Code: Drop,
 {
-    /// Notes where a row whose reads are valid is cut off, and keeps that the turns are used up. All memory is taken before the
-    /// first change.
+    /// Notes the place at which a row whose reads are valid is cut off, and keeps the stop that the turns are used up. All memory is taken
+    /// before the first change.
     fn cut(&mut self, seat: u32, at: &M) -> Result<(), NoMemory>
         requires on { IsOn M.meaning self.old seat at.now }
         requires used_up { self.old.turns ≡ self.old.limits.turns }
@@ -40,16 +41,16 @@ where
     {
         let task = self.tasks[seat as usize];
         let number = attempt_at(task).tried.number;
-        let entry = note_of(*self.tasks.allocator(), EntryKind::Cut, seat, number, at)?;
-        self.journal.room()?;
-        self.journal.push(entry);
+        let entry = entry_of(*self.tasks.allocator(), EntryKind::Cut, seat, number, at)?;
+        self.ledger.journal.room()?;
+        self.ledger.journal.push(entry);
         self.tasks[seat as usize] = told_task(task);
         self.stop = Some(Stop::Spent);
         Ok(())
     }
 
-    /// Where a seat has a member at work and the turns are used up, that is a cause to stop. With one seat, no try follows, unless it
-    /// runs code whose reads are valid.
+    /// Says that a seat with a member at work is a cause to stop if the turns are used up. With one seat no attempt is left without an
+    /// entry, unless the seat runs code whose reads are valid.
     fn spending_has_cause(&self, seat: u32)
         requires busy { IsSome (attempt_of (task_at self.now.tasks seat)) }
         requires used_up { self.now.turns ≡ self.now.limits.turns }
@@ -62,7 +63,7 @@ where
         let _ = &self.turns;
     }
 
-    /// Whether each read of a seat is valid.
+    /// Returns whether each read of a seat is valid.
     fn is_valid(&self, seat: u32) -> bool
         requires { IsSome (attempt_of (task_at self.now.tasks seat)) }
         ensures { IsTrue result ↔ IsValid self.now.memory.cells seat (row_at self.now.memory.rows seat).reads }
@@ -70,9 +71,9 @@ where
         self.memory.valid(seat).is_none()
     }
 
-    /// Keeps that the turns are used up, where a seat has a member at work. Where it runs code, its machine is given, and if its
-    /// reads are valid an entry notes where it is cut off. Takes memory for that entry alone, before the first change, and counts
-    /// no turn.
+    /// Keeps the stop that the turns are used up, for a seat that has a member at work. If the seat runs code, its machine is given. If its
+    /// reads are valid, an entry notes the place at which it is cut off. Takes memory only for that entry, before the first change, and
+    /// counts no turn.
     pub fn spend(&mut self, seat: u32, at: Option<&M>) -> Result<(), NoMemory>
         requires busy { IsSome (attempt_of (task_at self.old.tasks seat)) }
         requires given { is_some at ≡ is_some (working (task_at self.old.tasks seat)) }

@@ -1,4 +1,4 @@
-//! How an engine starts.
+//! The start of an engine.
 
 ghost use Rattle.std.specs.Prelude.{◌≡◌, IfOk, replicate};
 ghost use Rattle.std.specs.Arc.{arc_value};
@@ -9,6 +9,7 @@ ghost use Rattle.ame_engine.specs.Seen.{parts_of};
 ghost use Rattle.ame_engine.specs.Whole.{AreLimits};
 
 use super::Engine;
+use super::ledger::Ledger;
 use ame_journal::Journal;
 use ame_machine::Runner;
 use ame_pool::Pool;
@@ -19,7 +20,7 @@ use ame_term::NoMemory;
 use std::alloc::Global;
 use std::sync::Arc;
 
-/// So many seats that are idle.
+/// Returns the tasks of idle seats.
 pub(crate) fn idle_tasks(alloc: Global, seats: u32) -> Result<Vec<Task>, NoMemory>
     ensures { IfOk result (λ tasks. tasks.items ≡ replicate seats Task.Idle) }
 {
@@ -34,7 +35,7 @@ impl<M: Runner> Engine<M>
 where
     M::Code: Drop,
 {
-    /// An engine whose one member is the program at its beginning. Nothing is committed, and all seats are idle.
+    /// Returns an engine whose one member is the program at its beginning. Nothing is committed, and all seats are idle.
     pub fn start(alloc: Global, code: Arc<M::Code>, limits: Limits) -> Result<Engine<M>, NoMemory>
         requires { AreLimits limits }
         ensures code { IfOk result (λ engine. engine.code ≡ arc_value code) }
@@ -53,12 +54,10 @@ where
             code,
             limits,
             base: Journal::new(alloc),
-            journal: Journal::new(alloc),
+            ledger: Ledger::new(alloc),
             memory,
             tasks,
             pool,
-            output: Vec::new(alloc),
-            text: Vec::new(alloc),
             next: 1,
             turns: 0,
             counters: Counters::new(),

@@ -1,11 +1,11 @@
-//! How an engine stops.
+//! The stops of an engine.
 
-ghost use Rattle.std.specs.Prelude.{◌≡◌, None, Some, IsTrue};
+ghost use Rattle.std.specs.Prelude.{◌≡◌, false, None, Some, IsTrue};
 ghost use Rattle.ame_pool.specs.declared.oldest.Oldest.{Oldest};
 ghost use Rattle.ame_pool.specs.Begin.{oldest as oldest_of};
 ghost use Rattle.ame_engine.specs.declared.pick.Pick.{Pick};
 ghost use Rattle.ame_engine.specs.Begins.{pick_of};
-ghost use Rattle.ame_protocol.specs.Event.Causes.{HasCause, is_from_outside};
+ghost use Rattle.ame_protocol.specs.Event.Causes.{HasCause, is_from_outside, only_seats_keep};
 ghost use Rattle.ame_protocol.specs.Event.Event.{Event};
 ghost use Rattle.ame_engine.specs.Seen.{parts_of};
 ghost use Rattle.ame_engine.specs.Makes.{Makes};
@@ -20,7 +20,7 @@ impl<M: Runner> Engine<M>
 where
     M::Code: Drop,
 {
-    /// What a seat meets that begins is the cause of the stop that is kept then, and one from outside has none.
+    /// Says that what a seat meets that begins is the cause of the stop that is kept then. A stop from outside needs no cause.
     pub(super) fn stops_have_causes(&self)
         ensures finished { pick_of self.now ≡ Pick.Finished → HasCause (Some Stop.Finished) self.now.certificates
             (parts_of M.meaning (stopped_by Stop.Finished self.now)) }
@@ -35,8 +35,10 @@ where
         let _ = &self.turns;
     }
 
-    /// Keeps a stop, if none is kept. It has its cause, no entry tells it, and with one seat no try follows where the turns are used up.
+    /// Keeps a stop, if none is kept. The stop has its cause, and isn't one that only an event of a seat keeps. With one seat no attempt
+    /// is left without an entry if the turns are used up.
     pub(super) fn keep(&mut self, why: Stop)
+        requires apart { only_seats_keep why ≡ false }
         requires cause { self.old.stop ≡ None → HasCause (Some why) self.old.certificates
             (parts_of M.meaning (stopped_by why self.old)) }
         requires leaves { self.old.stop ≡ None → LeavesNoTry why (parts_of M.meaning self.old) }

@@ -1,4 +1,4 @@
-//! How a seat notes that its member came to a value that is too high.
+//! Notes of members that came to a value that is too high.
 
 ghost use Rattle.std.specs.Prelude.{◌≡◌, ◌<◌, ◌↔◌, IfOk, OnOk, OnErr, Ok, Some, None};
 ghost use Rattle.ame_rows.specs.declared.notes.Bad.{Bad};
@@ -13,7 +13,8 @@ ghost use Rattle.ame_engine.specs.Makes.{Makes, MakesAt};
 ghost use Rattle.ame_engine.specs.AtWork.{IsOn};
 
 use super::Engine;
-use super::notes::{note_of, told_task};
+use super::ledger::entry_of;
+use super::notes::told_task;
 use super::turn::Setback;
 use super::undo::attempt_at;
 use crate::answer::Noted;
@@ -40,9 +41,9 @@ where
     {
         let task = self.tasks[seat as usize];
         let number = attempt_at(task).tried.number;
-        let entry = note_of(*self.tasks.allocator(), EntryKind::Tall, seat, number, at)?;
-        self.journal.room()?;
-        self.journal.push(entry);
+        let entry = entry_of(*self.tasks.allocator(), EntryKind::Tall, seat, number, at)?;
+        self.ledger.journal.room()?;
+        self.ledger.journal.push(entry);
         self.tasks[seat as usize] = told_task(task);
         self.turns += 1;
         self.counters.talls += 1;
@@ -50,9 +51,8 @@ where
         Ok(())
     }
 
-    /// Notes the row of a seat whose machine's next value would be too high, and keeps that stop with the member's number. Where a
-    /// read isn't valid the seat turns back instead. Counts a turn. Takes memory where all reads are valid, all of it before the
-    /// first change.
+    /// Notes the row of a seat whose machine's next value would be too high, and keeps that stop with the member's number. If a read isn't
+    /// valid the seat turns back instead. Counts a turn. Takes memory only if all reads are valid, and all of it before the first change.
     pub fn tall(&mut self, seat: u32, at: &M) -> Result<Noted, NoMemory>
         requires on { IsOn M.meaning self.old seat at.now }
         requires grows { (M.meaning.stage self.old.code at.now).want ≡ Some Wants.Tall }

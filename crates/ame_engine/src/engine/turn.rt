@@ -1,4 +1,4 @@
-//! How a seat turns back.
+//! Seats that turn back.
 
 ghost use Rattle.std.specs.Prelude.{◌≡◌, ◌<◌, None};
 ghost use Rattle.ame_protocol.specs.Engine.Parts.{task_at};
@@ -12,7 +12,7 @@ use ame_machine::Runner;
 use ame_protocol::{Attempt, Counters, Reason, Task};
 use ame_term::Loc;
 
-/// What makes a seat turn back.
+/// Says why a seat turns back.
 #[derive(Clone, Copy)]
 pub(crate) enum Setback {
     /// It is to write this cell, which this other seat owns.

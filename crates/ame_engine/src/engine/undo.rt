@@ -1,4 +1,4 @@
-//! How the row of a seat is undone.
+//! Undoing the row of a seat.
 
 ghost use Rattle.std.specs.Prelude.{◌≡◌, ◌+◌, ◌<◌, ◌↔◌, ℕ, Some, None, IsSome, IsTrue, false, is_some, length, vec_len, vec_capacity, if◌then◌else◌};
 ghost use Rattle.ame_pool.specs.Calls.{IsAt};
@@ -17,7 +17,7 @@ use ame_machine::Runner;
 use ame_pool::Pool;
 use ame_protocol::{Attempt, Counters, Reason, Task, Tried};
 
-/// What a seat has at work.
+/// Returns the attempt of a seat at work.
 pub(super) fn attempt_at(task: Task) -> Attempt
     requires { IsSome (attempt_of task) }
     ensures { attempt_of task ≡ Some result }
@@ -28,7 +28,7 @@ pub(super) fn attempt_at(task: Task) -> Attempt
     }
 }
 
-/// Why what a seat has at work is undone. Where it runs, a stop is kept.
+/// Returns why the work of a seat is undone. If the seat runs, a stop is kept.
 fn why_undone(task: Task) -> Reason
     ensures { result ≡ reason_to_undo task }
 {
@@ -38,7 +38,7 @@ fn why_undone(task: Task) -> Reason
     }
 }
 
-/// The turns after an undo, by whether a stop is kept.
+/// Returns the turns after an undo, by whether a stop is kept.
 fn undo_turns(stopped: bool, turns: u32) -> u32
     requires { stopped ≡ false → turns < 4000000 }
     ensures { result ≡ (if stopped then turns else turns + 1) }
@@ -46,7 +46,7 @@ fn undo_turns(stopped: bool, turns: u32) -> u32
     if stopped { turns } else { turns + 1 }
 }
 
-/// The counters after an undo, by whether a stop is kept.
+/// Returns the counters after an undo, by whether a stop is kept.
 fn undo_counters(stopped: bool, counters: Counters) -> Counters
     requires { stopped ≡ false → counters.undos < 4000000 }
     ensures { result ≡ one_undone stopped counters }
@@ -60,7 +60,7 @@ fn undo_counters(stopped: bool, counters: Counters) -> Counters
     counters
 }
 
-/// A member goes home, by the reason for which its row was undone.
+/// Brings a member home, by the reason for which its row was undone.
 fn bring_home<M: Drop>(pool: &mut Pool<M>, number: u64, reason: Reason)
     requires { IsAt (is_busy_for reason) number pool.old }
     ensures { pool.new ≡ home_for reason number pool.old }
@@ -72,7 +72,7 @@ fn bring_home<M: Drop>(pool: &mut Pool<M>, number: u64, reason: Reason)
     }
 }
 
-/// Tells a try, unless an entry tells it.
+/// Lists an attempt, unless an entry was added for it.
 fn tell_try(tried: &mut Vec<Tried>, attempt: Attempt)
     requires { attempt.logged ≡ false → vec_len tried.old < vec_capacity tried.old }
     ensures items { tried.new.items ≡ with_try attempt tried.old.items }
@@ -88,9 +88,9 @@ impl<M: Runner> Engine<M>
 where
     M::Code: Drop,
 {
-    /// Undoes the last entry of a seat that undoes its row, or, once a stop is kept, of any that has a member at work. Once none
-    /// is left the member is home, and its try is told unless an entry tells it. Counts a turn while no stop is kept, and takes no
-    /// memory.
+    /// Undoes the last entry in the log of a seat that undoes its row, or, once a stop is kept, of any seat that has a member at work. Once
+    /// none is left the member is home, and its attempt is listed unless an entry was added for it. Counts a turn while no stop is kept,
+    /// and takes no memory.
     pub fn undo_one(&mut self, seat: u32) -> Undone
         requires busy { IsSome (attempt_of (task_at self.old.tasks seat)) }
         requires undoes { is_some self.old.stop ≡ false → IsTrue (is_undoing (task_at self.old.tasks seat)) }

@@ -1,4 +1,4 @@
-//! How a seat writes.
+//! Writes of seats.
 
 ghost use Rattle.std.specs.Prelude.{◌≡◌, ◌<◌, ℕ, IfOk, OnOk, OnErr, Ok, Some, None, false};
 ghost use Rattle.ame_term.specs.Tree.{Val};

@@ -1,8 +1,8 @@
-//! What a commit does to the members: some are woken, new ones join, and the one that is committed goes on.
+//! The members after a commit: some are woken, new ones join, and the committed one goes on.
 
-ghost use Rattle.std.specs.Prelude.{◌≡◌, ◌+◌, ◌≤◌, ℕ, true, [], All, None, Some, length, map};
+ghost use Rattle.std.specs.Prelude.{◌≡◌, ◌+◌, ◌≤◌, ℕ, true, [], All, IfOk, OnOk, OnErr, None, Some, length, map};
 ghost use Rattle.ame_pool.specs.Members.{find, is_busy};
-ghost use Rattle.ame_pool.specs.Calls.{IsAt, exchanged, removed};
+ghost use Rattle.ame_pool.specs.Calls.{IsAt, exchanged, removed, with_room};
 ghost use Rattle.ame_machine.specs.declared.wants.Wants.{Wants};
 ghost use Rattle.ame_protocol.specs.Engine.Shown.{shown_pool};
 ghost use Rattle.ame_protocol.specs.Engine.Events.{with_newcomers};
@@ -12,10 +12,10 @@ ghost use Rattle.ame_protocol.specs.Engine.Events.{woken_for};
 
 use ame_machine::{Runner, Wants};
 use ame_pool::Pool;
-use ame_term::Loc;
+use ame_term::{Loc, NoMemory};
 use std::alloc::Global;
 
-/// The members that watch these locations are woken, one location after another.
+/// Wakes the members that watch these locations, one location after another.
 pub(crate) fn wake_all<M: Drop>(pool: &mut Pool<M>, locs: &[Loc])
     ensures { pool.new ≡ woken_for (map (λ l. l.0) locs.now) pool.old }
 {
@@ -24,7 +24,25 @@ pub(crate) fn wake_all<M: Drop>(pool: &mut Pool<M>, locs: &[Loc])
     }
 }
 
-/// The new members of a machine take these numbers, in order, and join.
+/// Makes places for new members, whose numbers begin with `first`, and returns the number after theirs. Is out of memory also if that
+/// number would have more than 64 bits.
+pub(crate) fn make_places<M: Drop>(
+    pool: &mut Pool<M>,
+    first: u64,
+    count: usize,
+) -> Result<u64, NoMemory>
+    ensures number { IfOk result (λ end. end ≡ first + count) }
+    ensures places { OnOk result (pool.new ≡ with_room count pool.old) }
+    ensures err { OnErr result (pool.new ≡ pool.old) }
+{
+    let Some(end) = first.checked_add(count as u64) else {
+        return Err(NoMemory);
+    };
+    pool.room(count)?;
+    Ok(end)
+}
+
+/// Adds the new members of a machine, which take these numbers in order.
 pub(crate) fn join_all<M: Runner>(
     pool: &mut Pool<M>,
     alloc: Global,
@@ -50,7 +68,7 @@ pub(crate) fn join_all<M: Runner>(
     }
 }
 
-/// A member that has ended is gone. One that has come to `unprotected` goes on inside, with no more than its term.
+/// Removes a member that has ended. A member that has come to `unprotected` goes on inside, with no more than its term.
 pub(crate) fn send_on<M: Runner>(pool: &mut Pool<M>, number: u64, mut at: M)
     requires { IsAt is_busy number pool.old }
     ensures ended { (code : M.Code) → (M.meaning.stage code at).want ≡ Some Wants.Done → pool.new ≡ removed number pool.old }

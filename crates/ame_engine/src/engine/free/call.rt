@@ -1,4 +1,4 @@
-//! How a visited machine calls a device.
+//! Calls of devices by visited machines.
 
 ghost use Rattle.std.specs.Prelude.{◌≡◌, ◌<◌, ◌+◌, ◌≤◌, ◌^◌, ℕ, OnErr, Ok, Some, None, vec_len};
 ghost use Rattle.ame_device.specs.Calls.{all_told};
@@ -11,16 +11,17 @@ ghost use Rattle.ame_protocol.specs.Event.Faults.{LeadsToCall};
 ghost use Rattle.ame_engine.specs.AtWork.{IsOn};
 ghost use Rattle.ame_engine.specs.Visiting.{IsVisiting, HasComeHome, HasBeenRefused};
 
-use super::home::{free_entry, send_home};
+use super::home::send_home;
 use crate::answer::Freed;
 use crate::engine::Engine;
+use crate::engine::ledger::entry_of;
 use ame_device::{Device, DeviceFail, call_device};
-use ame_journal::Entry;
+use ame_journal::{Entry, EntryKind};
 use ame_machine::{Input, Runner};
 use ame_protocol::{Attempt, Stop, Task};
 use ame_term::NoMemory;
 
-/// The entry of a visit with one step more, which a device answered.
+/// Returns the entry of a visit with one step more, which a device answered.
 fn answered(entry: Entry, answer: i64) -> Entry
     requires { entry.steps + 1 < 2 ^ 64 }
     ensures { result ≡ record entry { steps = entry.steps + 1; answer = Some answer } }
@@ -39,7 +40,7 @@ impl<M: Runner> Engine<M>
 where
     M::Code: Drop,
 {
-    /// A visited member goes home as it was begun, since a device failed, and that stop is kept.
+    /// Sends a visited member home as it was begun, since a device failed, and keeps that stop.
     fn refuse(&mut self, seat: u32, attempt: Attempt, device: u8)
         requires task { task_at self.old.tasks seat ≡ Task.Free attempt }
         requires going { self.old.stop ≡ None }
@@ -54,8 +55,8 @@ where
         self.stop = Some(Stop::DeviceFault(device));
     }
 
-    /// Calls the device that a visited machine wants. Where it answers, an entry with the answer joins the journal, and the member
-    /// goes home; where it fails, the member goes home as it was begun. All memory but the device's own is taken before the call.
+    /// Calls the device that a visited machine wants. If the device answers, an entry with the answer joins the journal, and the member
+    /// goes home. If it fails, the member goes home as it was begun. All memory but the device's own is taken before the call.
     pub(super) fn visit_device<D: Device>(
         &mut self,
         seat: u32,
@@ -82,12 +83,13 @@ where
         ensures quiet { OnErr result (all_told D.device_heard D.device_faults devices.new.items ≡ all_told D.device_heard D.device_faults devices.old.items) }
     {
         let number = attempt.tried.number;
-        let entry = free_entry(*self.tasks.allocator(), seat, number, &at)?;
-        self.journal.room()?;
+        let alloc = *self.tasks.allocator();
+        let entry = entry_of(alloc, EntryKind::Free, seat, number, &at)?;
+        self.ledger.journal.room()?;
         match call_device(devices, device as usize, argument) {
             Ok(answer) => {
                 at.feed(&self.code, Input::Int(answer));
-                self.journal.push(answered(entry, answer));
+                self.ledger.journal.push(answered(entry, answer));
                 send_home(&mut self.pool, number, at);
                 self.tasks[seat as usize] = Task::Idle;
                 self.turns += 1;

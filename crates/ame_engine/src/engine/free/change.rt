@@ -1,4 +1,4 @@
-//! How a visit changes the cells.
+//! Changes of the cells by visits.
 
 ghost use Rattle.std.specs.Prelude.{◌≡◌, true, OnOk, OnErr};
 ghost use Rattle.ame_engine.specs.Visiting.{changed_by, CanChange, makes_cell};
@@ -6,7 +6,7 @@ ghost use Rattle.ame_engine.specs.Visiting.{changed_by, CanChange, makes_cell};
 use ame_rows::Memory;
 use ame_term::{Loc, NoMemory, Sort, TyNo};
 
-/// How a visit changes the cells.
+/// Describes the change that a visit makes to the cells.
 #[derive(Drop)]
 pub(crate) enum Change<V> {
     /// Not at all.

@@ -1,4 +1,4 @@
-//! How a visit that called no device ends.
+//! The end of a visit that called no device.
 
 ghost use Rattle.std.specs.Prelude.{◌≡◌, ◌<◌, ◌≤◌, OnOk, OnErr, None, true, []};
 ghost use Rattle.ame_machine.specs.RefSorts.{IsRefForm};
@@ -8,11 +8,10 @@ ghost use Rattle.ame_engine.specs.Makes.{MakesAt};
 ghost use Rattle.ame_engine.specs.Visiting.{IsVisitTo, visits_at, SettlesThere, changed_by, CanChange, IsGoodChange, makes_cell};
 
 use super::change::{Change, change_memory};
-use super::home::{free_entry, send_home};
+use super::home::send_home;
 use crate::engine::Engine;
-use crate::engine::commit::members::join_all;
-use crate::engine::commit::taken::{append, make_room, number_after};
-use ame_io::lines_of;
+use crate::engine::commit::members::{join_all, make_places};
+use ame_journal::EntryKind;
 use ame_machine::Runner;
 use ame_protocol::{Attempt, Task};
 use ame_term::NoMemory;
@@ -21,8 +20,8 @@ impl<M: Runner> Engine<M>
 where
     M::Code: Drop,
 {
-    /// Ends a visit where its machine stands: the cells change so, its prints join the output, an entry the journal and its new
-    /// members the pool, and its member goes home. All memory is taken before the first change.
+    /// Ends a visit at the place of its machine. The cells change, the prints join the output, an entry the journal and the new members the
+    /// pool, and the visited member goes home. All memory is taken before the first change.
     pub(super) fn end_visit(
         &mut self,
         seat: u32,
@@ -46,24 +45,12 @@ where
             (changed_by (M.meaning.value_of self.old.code) change (parts_of M.meaning self.old).memory)) self.old self.new) }
         ensures err { OnErr result (self.new ≡ self.old) }
     {
-        let alloc = *self.tasks.allocator();
         let number = attempt.tried.number;
-        let entry = free_entry(alloc, seat, number, &at)?;
-        let bytes = lines_of(alloc, at.prints())?;
-        let count = at.spawns();
-        let next = number_after(self.next, count)?;
-        make_room(
-            &mut self.output,
-            at.prints().len(),
-            &mut self.text,
-            bytes.len(),
-            &mut self.journal,
-        )?;
-        self.pool.room(count)?;
+        let draft = self.ledger.draft(EntryKind::Free, seat, number, &at)?;
+        let next = make_places(&mut self.pool, self.next, at.spawns())?;
         change_memory(&mut self.memory, change)?;
-        append(&mut self.output, at.prints());
-        append(&mut self.text, bytes.as_slice());
-        self.journal.push(entry);
+        self.ledger.append(draft, at.prints());
+        let alloc = *self.tasks.allocator();
         join_all(&mut self.pool, alloc, self.next, next, &mut at);
         send_home(&mut self.pool, number, at);
         self.next = next;

@@ -14,7 +14,7 @@ impl<M: Runner> Engine<M>
 where
     M::Code: Drop,
 {
-    /// A machine is fed what is committed at the location where it reads or peeks.
+    /// Feeds a machine the committed value of the location that it reads or peeks at.
     fn given(&self, at: &mut M, l: Loc) -> Result<Change<M::Value>, NoMemory>
         requires on { (seat : ℕ) × IsOn M.meaning self.now seat at.old }
         requires visits { IsVisiting (M.meaning.stage self.now.code at.old) }
@@ -27,7 +27,7 @@ where
         Ok(Change::Stays)
     }
 
-    /// A machine is told that what it writes is accepted.
+    /// Accepts what a machine writes, and returns the change.
     fn written(&self, at: &mut M, l: Loc) -> Result<Change<M::Value>, NoMemory>
         requires on { (seat : ℕ) × IsOn M.meaning self.now seat at.old }
         requires visits { IsVisiting (M.meaning.stage self.now.code at.old) }
@@ -40,7 +40,7 @@ where
         Ok(Change::Puts(l, value))
     }
 
-    /// A machine is fed the location of the cell that is to be made for it.
+    /// Feeds a machine the location of the cell that is to be made for it.
     fn made(&self, at: &mut M, sort: Sort, number: TyNo) -> Result<Change<M::Value>, NoMemory>
         requires on { (seat : ℕ) × IsOn M.meaning self.now seat at.old }
         requires visits { IsVisiting (M.meaning.stage self.now.code at.old) }
@@ -53,7 +53,7 @@ where
         Ok(Change::Makes(sort, number, value))
     }
 
-    /// A machine is told that what it spawns or prints is accepted, or it closes.
+    /// Accepts what a machine spawns or prints, or closes it.
     fn accepted(&self, at: &mut M)
         requires on { (seat : ℕ) × IsOn M.meaning self.now seat at.old }
         requires visits { IsVisiting (M.meaning.stage self.now.code at.old) }
@@ -65,8 +65,8 @@ where
         at.feed(&self.code, Input::Unit);
     }
 
-    /// Makes the step that a machine wants, unless it wants a device, and tells how the cells are to change. Takes memory for the
-    /// copy of a value.
+    /// Makes the step that a machine wants, unless it wants a device, and returns the change of the cells. Takes memory for the copy of a
+    /// value.
     pub(super) fn serve(&self, at: &mut M) -> Result<Change<M::Value>, NoMemory>
         requires on { (seat : ℕ) × IsOn M.meaning self.now seat at.old }
         requires visits { IsVisiting (M.meaning.stage self.now.code at.old) }

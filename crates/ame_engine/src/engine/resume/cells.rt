@@ -4,7 +4,6 @@ ghost use Rattle.std.specs.Prelude.{◌≡◌, ◌<◌, ℕ, Some, None, IfOk, l
 ghost use Rattle.ame_term.specs.Maps.{at};
 ghost use Rattle.ame_store.specs.Changes.{made};
 ghost use Rattle.ame_check.specs.declared.stored.Stored.{Stored};
-ghost use Rattle.ame_protocol.specs.Engine.Simulates.{most_opened};
 ghost use Rattle.ame_engine.specs.Resuming.{AreCellsOf, IsCellOf};
 
 use ame_check::Stored;
@@ -13,7 +12,10 @@ use ame_term::{Copied, NoMemory};
 use std::alloc::Global;
 use std::collections::BTreeMap;
 
-/// The cell for what a replay has at a location, or else a dead copy of its first one.
+/// The most cells with which an engine goes on.
+pub(super) const MOST_CELLS: u32 = 4_000_000;
+
+/// Returns the cell for the content of a location in a replay. If the replay has no such location, it is a dead copy of the first cell.
 fn cell_for<V: Copied + Drop>(
     alloc: Global,
     first: &Stored<V>,
@@ -44,18 +46,21 @@ fn cell_for<V: Copied + Drop>(
     })
 }
 
-/// The cells of a replay by location, up to its greatest one; where it has none, a dead copy of its first.
-pub(crate) fn cells_of<V: Copied + Drop>(
+/// Returns the cells of a replay by location, up to its greatest one. Each location that the replay hasn't gets a dead copy of the first
+/// cell. Is out of memory also if the greatest location is 4,000,000 or more.
+pub fn cells_of<V: Copied + Drop>(
     alloc: Global,
     mut stored: BTreeMap<u32, Stored<V>>,
 ) -> Result<Vec<Cell<V>>, NoMemory>
-    requires near { (l : ℕ) (cell : Stored V) → at stored.entries l ≡ Some cell → l < most_opened }
     ensures { IfOk result (λ cells. AreCellsOf V.same stored.entries cells.items) }
 {
     let mut cells = Vec::new(alloc);
     let Some((last, _)) = stored.last_key_value() else {
         return Ok(cells);
     };
+    if *last >= MOST_CELLS {
+        return Err(NoMemory);
+    }
     let end = *last + 1;
     let Some((_, first)) = stored.first_key_value() else {
         return Ok(cells);

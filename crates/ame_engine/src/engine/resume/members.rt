@@ -9,7 +9,7 @@ use ame_term::NoMemory;
 use std::alloc::Global;
 use std::collections::BTreeMap;
 
-/// The members of a replay, all ready in order of their numbers.
+/// Returns the members of a replay, all ready in order of their numbers.
 pub(crate) fn pool_of<M: Runner>(
     alloc: Global,
     _code: &M::Code,

@@ -18,7 +18,7 @@ returns-in-Ok-clause-at g c =
     let on = c.requires.turn.at.on in
     let sound = g.met.M.Runner.sound c.args.engine.now.code m on.machine in
     let v = alloc-sets (g.M.Runner.meaning.stage c.args.engine.now.code m) a.sort a.number (sound.told (wants.Alloc a.sort a.number) a.wants) in
-    alloc-on g.M.Runner.meaning c.args.engine.now c.alloc.new.self c.args.seat m fed c.stands.ensures on a.outside c.requires.early sound
+    alloc-on g.M.Runner.meaning c.args.engine.now c.alloc.new.self c.args.seat m fed c.stands.ensures c.requires.turn.at a.outside c.requires.early sound
     (subst (λ k. g.M.Runner.meaning.is_machine k fed) c.requires.same c.feed.ensures.machine) a.sort a.number v.0 c.in-Ok.l.0 a.wants
     (c.in-Ok.ensures.event a.sort a.number v.0 a.wants v.1) c.in-Ok.ensures.location
     (subst (λ k. after_input (g.M.Runner.meaning.stage k m).want (Val.Loc c.in-Ok.l.0) (g.M.Runner.meaning.stage k m) ≡ Some (g.M.Runner.meaning.stage k fed))

@@ -15,7 +15,7 @@ returns-in-Ok-clause-at g c =
     let fed = c.feed.new.self in
     let a = c.requires.reads in
     let on = c.requires.turn.at.on in
-    read-on g.M.Runner.meaning c.args.engine.now c.read.new.self c.args.seat m fed c.stands.ensures on a.outside c.requires.early
+    read-on g.M.Runner.meaning c.args.engine.now c.read.new.self c.args.seat m fed c.stands.ensures c.requires.turn.at a.outside c.requires.early
     (g.met.M.Runner.sound c.args.engine.now.code m on.machine) (subst (λ k. g.M.Runner.meaning.is_machine k fed) c.requires.same c.feed.ensures.machine)
     a.l c.in-Ok.value a.wants (c.in-Ok.ensures.event a.l a.wants) (c.in-Ok.ensures.value a.l a.wants)
     (subst (λ k. after_input (g.M.Runner.meaning.stage k m).want (g.M.Runner.meaning.value_of k c.in-Ok.value) (g.M.Runner.meaning.stage k m) ≡ Some (g.M.Runner.meaning.stage k fed))

@@ -19,7 +19,7 @@ returns-in-Ok-Wrote-clause-at g c = λ _.
     let on = c.requires.turn.at.on in
     let sound = g.met.M.Runner.sound c.args.engine.now.code m on.machine in
     let v = write-sets (g.M.Runner.meaning.stage c.args.engine.now.code m) a.l.0 (sound.told (wants.Write a.l) a.wants) in
-    write-on g.M.Runner.meaning c.args.engine.now c.write.new.self c.args.seat m fed c.stands.ensures on a.outside c.requires.early sound
+    write-on g.M.Runner.meaning c.args.engine.now c.write.new.self c.args.seat m fed c.stands.ensures c.requires.turn.at a.outside c.requires.early sound
     (subst (λ k. g.M.Runner.meaning.is_machine k fed) c.requires.same c.feed.ensures.machine) a.l v.0 a.wants
     (c.write.ensures.event a.l v.0 a.wants v.1 (c.in-Ok-Wrote.is ∙ ap Ok c.in-Ok-Wrote.field-0-is))
     (sym c.in-Ok-Wrote.field-0-is ∙ c.in-Ok-Wrote.ensures.answer a.l a.wants)

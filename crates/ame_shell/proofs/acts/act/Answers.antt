@@ -1,5 +1,6 @@
-use Rattle.std.proofs.Common.{refl, ap, ◌∙◌}
+use Rattle.std.proofs.Common.{refl, sym, ap, ◌∙◌}
 use Rattle.std.specs.Prelude.{is_some}
+use Rattle.ame_shell.proofs.HandLemmas.{lacked-fits}
 use Rattle.ame_shell.proofs.DoneLemmas.{none-kept, lacked}
 use Rattle.ame_shell.proofs.acts.act.Goals as goal
 
@@ -31,3 +32,10 @@ returns-in-Undoing-clause-lacks g c = record {
   unready = λ unready going. absurd (unready (c.if-not-is_ready.ensures.yes refl));
   due = λ _. c.undo_on-in-Undoing.ensures.due _;
 }
+
+pub returns-then-not-is_ready-clause-fits : goal.returns-then-not-is_ready-clause-fits
+returns-then-not-is_ready-clause-fits g c =
+    lacked-fits g.M.Runner.meaning c.args.engine.now c.give_up.new.engine c.args.seat c.args.engine.now refl c.give_up.ensures.engine c.args.work.now c.requires.fits
+
+pub returns-else-is_back-clause-fits : goal.returns-else-is_back-clause-fits
+returns-else-is_back-clause-fits g c = c.serve-outcome.ensures.at (sym c.if-is_back.ensures)

@@ -5,7 +5,7 @@ use Rattle.ame_engine.specs.Seen.{parts_of}
 use Rattle.ame_engine.specs.Stops.{stopped_by, blocked_by}
 use Rattle.ame_shell.specs.Asked.{IsToTakeMemory}
 use Rattle.ame_shell.specs.Outcomes.{IsOutcomeOf, IsMade}
-use Rattle.ame_shell.proofs.HandLemmas.{begun-met, idle-met, stopped-met}
+use Rattle.ame_shell.proofs.HandLemmas.{begun-fits, begun-met, idle-met, stopped-met}
 use Rattle.ame_shell.proofs.DoneLemmas.{told-ok, told-on, stops-made, takes-going, lacked, lacked-due}
 use Rattle.ame_shell.proofs.events.begin_on.Goals as goal
 
@@ -41,3 +41,13 @@ returns-in-Err-clause-done g c = λ told.
 pub returns-in-Err-clause-due : goal.returns-in-Err-clause-due
 returns-in-Err-clause-due g c =
     lacked-due c.args.engine.now c.args.seat _ _ c.give_up.ensures.outcome (IsToTakeMemory.begins c.requires.idle c.in-Err.ensures.wants)
+
+pub returns-in-Ok-Begun-clause-fits : goal.returns-in-Ok-Begun-clause-fits
+returns-in-Ok-Begun-clause-fits g c =
+    let r = g.M.Runner.meaning in
+    let m = c.in-Ok-Begun.machine in
+    let core = c.begin.new.self in
+    let is = c.in-Ok-Begun.is ∙ ap Ok c.in-Ok-Begun.field-0-is in
+    let met = begun-met (λ number m. HasBegun r c.args.seat number c.args.engine.now core m) (λ why. core ≡ stopped_by why c.args.engine.now)
+    (core ≡ blocked_by (certificates_in (parts_of r c.args.engine.now)) c.args.engine.now) (core ≡ c.args.engine.now) (pick_of c.args.engine.now) m (told-ok _ _ _ is c.begin.ensures.answer) in
+    begun-fits r core c.args.seat m met.2.on met.2.rests

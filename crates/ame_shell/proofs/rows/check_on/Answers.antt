@@ -12,7 +12,7 @@ returns-in-Valid-clause-at g c = λ _.
     let a = c.requires.turn.at.on.stands.attempt in
     let m = c.args.machine.now in
     let task = running g.M.Runner.meaning c.args.engine.now c.args.engine.now c.args.seat m c.requires.turn.at c.requires.outside in
-    check-on g.M.Runner.meaning c.args.engine.now c.check.new.self c.args.seat m c.checked.new.self a c.requires.turn.at.on task
+    check-on g.M.Runner.meaning c.args.engine.now c.check.new.self c.args.seat m c.checked.new.self a c.requires.turn.at task
     (c.check.ensures.valid a task c.in-Valid.is) (c.checked.ensures.machine c.args.engine.now.code c.requires.turn.at.on.machine)
     (c.checked.ensures.stage c.args.engine.now.code)
 

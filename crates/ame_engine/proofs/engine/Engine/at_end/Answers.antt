@@ -2,19 +2,12 @@ use Rattle.std.proofs.Common.{rules, ◌≡◌, List, [], arith, subst, sym, vec
 use Rattle.std.specs.Arc.{arc_value}
 use Rattle.ame_io.specs.Lines.{lines}
 use Rattle.ame_protocol.specs.declared.types.Task.{Task}
-use Rattle.ame_protocol.specs.Engine.Simulates.{most_opened}
 use Rattle.ame_engine.specs.Places.{HasPlacesFor}
 use Rattle.ame_engine.specs.Resuming.{AreMembersOf}
 use Rattle.ame_engine.proofs.PlaceLemmas.{places-idle}
 use Rattle.ame_engine.proofs.ResumedCells.{cells-free, cells-even}
 use Rattle.ame_engine.proofs.ResumedLemmas.{stands-as, all-free, found-sound, found-resumed}
 use Rattle.ame_engine.proofs.engine.Engine.at_end.Goals as goal
-
-pub cells_of-requires : goal.cells_of-requires
-cells_of-requires g c =
-    let st = stands-as g.M.Runner.meaning (arc_value c.args.code) c.args.base.entries c.into_parts-cells.result _ c.into_parts-cells.ensures (λ m. m.entries) (λ m. m.entries) (λ v. v.items)
-    c.requires.led in
-    record { near = λ l cell is. st.below most_opened c.requires.near l cell is }
 
 pub from_cells-store-requires-clause-free : goal.from_cells-store-requires-clause-free
 from_cells-store-requires-clause-free g c = cells-free g.M.Value.Copied.same _ _ c.in_ok-cells_of.ensures

@@ -1,4 +1,4 @@
-use Rattle.std.proofs.Common.{◌≡◌, Option, ap, sym, ◌∙◌, subst}
+use Rattle.std.proofs.Common.{◌≡◌, Option, ap, sym, ◌∙◌, subst, refl}
 use Rattle.std.specs.Prelude.{unwrap_or}
 use Rattle.ame_protocol.specs.declared.stop.Stop.{Stop}
 use Rattle.ame_protocol.specs.Event.Event.{Event}
@@ -24,4 +24,4 @@ returns-in-Spent-clause-halts g c = λ why is.
     subst (λ (w : Stop). Makes g.M.Runner.meaning (Event.Halt w) c.args.self.now c.keep-in-Spent.new.self)
     (ap (λ (o : Option Stop). unwrap_or o Stop.Spent) (ap stop_met (sym met) ∙ is))
     (makes-halted g.M.Runner.meaning c.args.self.now c.keep-in-Spent.new.self going Stop.Spent c.keep-in-Spent.ensures
-    (λ number e. let clash : Stop.Spent ≡ Stop.Tall number = e in cc) (c.stops_have_causes.ensures.spent met) c.idle_seats_leave_no_try.ensures)
+    refl (c.stops_have_causes.ensures.spent met) c.idle_seats_leave_no_try.ensures)

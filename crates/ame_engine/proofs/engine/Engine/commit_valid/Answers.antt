@@ -12,12 +12,12 @@ release_all-requires-clause-can_grow g c =
     _ c.args.self.now c.self.view_is c.self.invariant.whole c.args.seat c.args.at c.requires.on c.requires.commits.outside
     (g.met.M.Runner.sound c.args.self.now.code c.args.at c.requires.on.machine) c.requires.left c.args.attempt c.requires.task c.requires.valid
 
-pub push-requires-clause-fit : goal.push-requires-clause-fit
-push-requires-clause-fit g c =
+pub append-requires-clause-fit : goal.append-requires-clause-fit
+append-requires-clause-fit g c =
     commit-fit g.M.Runner.meaning
     _ c.args.self.now c.self.view_is c.self.invariant.whole c.args.seat c.args.at c.requires.on c.requires.commits.outside
     (g.met.M.Runner.sound c.args.self.now.code c.args.at c.requires.on.machine) c.requires.left c.args.attempt c.requires.task c.requires.valid
-    c.in_ok-entry.entry (c.in_ok-entry.ensures (arc_value c.self.inside.code))
+    c.in_ok-draft.draft.entry (c.in_ok-draft.ensures.entry (arc_value c.self.inside.code))
 
 pub join_all-requires-clause-room : goal.join_all-requires-clause-room
 join_all-requires-clause-room g c =
@@ -25,9 +25,9 @@ join_all-requires-clause-room g c =
     _ c.args.self.now c.self.view_is c.self.invariant.whole c.args.seat c.args.at c.requires.on c.requires.commits.outside
     (g.met.M.Runner.sound c.args.self.now.code c.args.at c.requires.on.machine) c.requires.left c.args.attempt c.requires.task c.requires.valid
     c.in_ok-owned.owned.items c.in_ok-owned.ensures.same c.in_ok-owned.ensures.rising
-    c.spawns-count.result (c.spawns-count.ensures (arc_value c.self.inside.code)) c.room.new.self c.wake_all.new.pool c.in_ok-room.ensures.ok
+    c.spawns.result (c.spawns.ensures (arc_value c.self.inside.code)) c.make_places.new.pool c.wake_all.new.pool c.in_ok-next.ensures.places
     c.as_slice.result.now c.as_slice.ensures.value c.wake_all.ensures in
-    let next = c.in_ok-next.ensures in omega (arith, room, next)
+    let next = c.in_ok-next.ensures.number in omega (arith, room, next)
 
 pub join_all-requires-clause-fresh : goal.join_all-requires-clause-fresh
 join_all-requires-clause-fresh g c =
@@ -35,7 +35,7 @@ join_all-requires-clause-fresh g c =
     _ c.args.self.now c.self.view_is c.self.invariant.whole c.args.seat c.args.at c.requires.on c.requires.commits.outside
     (g.met.M.Runner.sound c.args.self.now.code c.args.at c.requires.on.machine) c.requires.left c.args.attempt c.requires.task c.requires.valid
     c.in_ok-owned.owned.items c.in_ok-owned.ensures.same c.in_ok-owned.ensures.rising
-    c.spawns-count.result (c.spawns-count.ensures (arc_value c.self.inside.code)) c.room.new.self c.wake_all.new.pool c.in_ok-room.ensures.ok
+    c.spawns.result (c.spawns.ensures (arc_value c.self.inside.code)) c.make_places.new.pool c.wake_all.new.pool c.in_ok-next.ensures.places
     c.as_slice.result.now c.as_slice.ensures.value c.wake_all.ensures
 
 pub send_on-requires : goal.send_on-requires
@@ -44,7 +44,7 @@ send_on-requires g c =
     _ c.args.self.now c.self.view_is c.self.invariant.whole c.args.seat c.args.at c.requires.on c.requires.commits.outside
     (g.met.M.Runner.sound c.args.self.now.code c.args.at c.requires.on.machine) c.requires.left c.args.attempt c.requires.task c.requires.valid
     c.in_ok-owned.owned.items c.in_ok-owned.ensures.same c.in_ok-owned.ensures.rising
-    c.spawns-count.result (c.spawns-count.ensures (arc_value c.self.inside.code)) c.room.new.self c.wake_all.new.pool c.in_ok-room.ensures.ok
+    c.spawns.result (c.spawns.ensures (arc_value c.self.inside.code)) c.make_places.new.pool c.wake_all.new.pool c.in_ok-next.ensures.places
     c.as_slice.result.now c.as_slice.ensures.value c.wake_all.ensures
     c.join_all.new.pool (c.join_all.ensures.pool (arc_value c.self.inside.code))
 
@@ -60,19 +60,19 @@ invariant_of-self-2 g c =
           _ c.args.self.now c.self.view_is c.self.invariant.whole c.args.seat c.args.at c.requires.on c.requires.commits.outside
           (g.met.M.Runner.sound c.args.self.now.code c.args.at c.requires.on.machine) c.requires.left c.args.attempt c.requires.task c.requires.valid
           c.in_ok-owned.owned.items c.in_ok-owned.ensures.same c.in_ok-owned.ensures.rising
-          c.spawns-count.result (c.spawns-count.ensures (arc_value c.self.inside.code)) c.room.new.self c.wake_all.new.pool c.in_ok-room.ensures.ok
+          c.spawns.result (c.spawns.ensures (arc_value c.self.inside.code)) c.make_places.new.pool c.wake_all.new.pool c.in_ok-next.ensures.places
           c.as_slice.result.now c.as_slice.ensures.value c.wake_all.ensures
           c.join_all.new.pool (c.join_all.ensures.pool (arc_value c.self.inside.code))
           c.join_all.new.at c.send_on.new.pool (c.join_all.ensures.stage (arc_value c.self.inside.code)) (c.send_on.ensures.ended (arc_value c.self.inside.code))
           (c.send_on.ensures.left (arc_value c.self.inside.code)) (c.join_all.ensures.machine (arc_value c.self.inside.code))
           (c.join_all.ensures.rests (arc_value c.self.inside.code)) (c.send_on.ensures.rests (arc_value c.self.inside.code))
           c.release_all.new.self c.release_all.ensures
-          c.make_room.new.output.items c.append.new.list.items c.prints-3.result.now (c.prints-3.ensures (arc_value c.self.inside.code))
-          c.make_room.ensures.output c.append.ensures
-          c.make_room.new.text.items c.append-2.new.list.items c.as_slice-2.result.now c.in_ok-bytes.bytes.items c.prints.result.now
-          (c.prints.ensures (arc_value c.self.inside.code)) c.in_ok-bytes.ensures c.as_slice-2.ensures.value c.make_room.ensures.text c.append-2.ensures
-          c.make_room.new.journal.entries c.push.new.self.entries c.in_ok-entry.entry (c.in_ok-entry.ensures (arc_value c.self.inside.code))
-          c.make_room.ensures.entries c.push.ensures.entries c.in_ok-next.next c.in_ok-next.ensures committing c.requires.going;
+          c.draft.new.self.output.items c.append.new.self.output.items c.prints.result.now (c.prints.ensures (arc_value c.self.inside.code))
+          c.in_ok-draft.ensures.output c.append.ensures.output
+          c.draft.new.self.text.items c.append.new.self.text.items c.in_ok-draft.draft.lines.items (c.in_ok-draft.ensures.lines (arc_value c.self.inside.code))
+          c.in_ok-draft.ensures.text c.append.ensures.text
+          c.draft.new.self.journal.entries c.append.new.self.journal.entries c.in_ok-draft.draft.entry (c.in_ok-draft.ensures.entry (arc_value c.self.inside.code))
+          c.in_ok-draft.ensures.journal c.append.ensures.journal c.in_ok-next.next c.in_ok-next.ensures.number committing c.requires.going;
       places = places-freed c.self.inside.tasks.items c.args.seat _ _ c.args.attempt (ap attempt_of is) c.self.invariant.places;
     }
 
@@ -82,19 +82,19 @@ returns-clause-ended g c =
     _ c.args.self.now c.self.view_is c.self.invariant.whole c.args.seat c.args.at c.requires.on c.requires.commits.outside
     (g.met.M.Runner.sound c.args.self.now.code c.args.at c.requires.on.machine) c.requires.left c.args.attempt c.requires.task c.requires.valid
     c.in_ok-owned.owned.items c.in_ok-owned.ensures.same c.in_ok-owned.ensures.rising
-    c.spawns-count.result (c.spawns-count.ensures (arc_value c.self.inside.code)) c.room.new.self c.wake_all.new.pool c.in_ok-room.ensures.ok
+    c.spawns.result (c.spawns.ensures (arc_value c.self.inside.code)) c.make_places.new.pool c.wake_all.new.pool c.in_ok-next.ensures.places
     c.as_slice.result.now c.as_slice.ensures.value c.wake_all.ensures
     c.join_all.new.pool (c.join_all.ensures.pool (arc_value c.self.inside.code))
     c.join_all.new.at c.send_on.new.pool (c.join_all.ensures.stage (arc_value c.self.inside.code)) (c.send_on.ensures.ended (arc_value c.self.inside.code))
     (c.send_on.ensures.left (arc_value c.self.inside.code)) (c.join_all.ensures.machine (arc_value c.self.inside.code))
     (c.join_all.ensures.rests (arc_value c.self.inside.code)) (c.send_on.ensures.rests (arc_value c.self.inside.code))
     c.release_all.new.self c.release_all.ensures
-    c.make_room.new.output.items c.append.new.list.items c.prints-3.result.now (c.prints-3.ensures (arc_value c.self.inside.code))
-    c.make_room.ensures.output c.append.ensures
-    c.make_room.new.text.items c.append-2.new.list.items c.as_slice-2.result.now c.in_ok-bytes.bytes.items c.prints.result.now
-    (c.prints.ensures (arc_value c.self.inside.code)) c.in_ok-bytes.ensures c.as_slice-2.ensures.value c.make_room.ensures.text c.append-2.ensures
-    c.make_room.new.journal.entries c.push.new.self.entries c.in_ok-entry.entry (c.in_ok-entry.ensures (arc_value c.self.inside.code))
-    c.make_room.ensures.entries c.push.ensures.entries c.in_ok-next.next c.in_ok-next.ensures c.requires.going
+    c.draft.new.self.output.items c.append.new.self.output.items c.prints.result.now (c.prints.ensures (arc_value c.self.inside.code))
+    c.in_ok-draft.ensures.output c.append.ensures.output
+    c.draft.new.self.text.items c.append.new.self.text.items c.in_ok-draft.draft.lines.items (c.in_ok-draft.ensures.lines (arc_value c.self.inside.code))
+    c.in_ok-draft.ensures.text c.append.ensures.text
+    c.draft.new.self.journal.entries c.append.new.self.journal.entries c.in_ok-draft.draft.entry (c.in_ok-draft.ensures.entry (arc_value c.self.inside.code))
+    c.in_ok-draft.ensures.journal c.append.ensures.journal c.in_ok-next.next c.in_ok-next.ensures.number c.requires.going
 
 pub returns-clause-left : goal.returns-clause-left
 returns-clause-left g c =
@@ -102,16 +102,16 @@ returns-clause-left g c =
     _ c.args.self.now c.self.view_is c.self.invariant.whole c.args.seat c.args.at c.requires.on c.requires.commits.outside
     (g.met.M.Runner.sound c.args.self.now.code c.args.at c.requires.on.machine) c.requires.left c.args.attempt c.requires.task c.requires.valid
     c.in_ok-owned.owned.items c.in_ok-owned.ensures.same c.in_ok-owned.ensures.rising
-    c.spawns-count.result (c.spawns-count.ensures (arc_value c.self.inside.code)) c.room.new.self c.wake_all.new.pool c.in_ok-room.ensures.ok
+    c.spawns.result (c.spawns.ensures (arc_value c.self.inside.code)) c.make_places.new.pool c.wake_all.new.pool c.in_ok-next.ensures.places
     c.as_slice.result.now c.as_slice.ensures.value c.wake_all.ensures
     c.join_all.new.pool (c.join_all.ensures.pool (arc_value c.self.inside.code))
     c.join_all.new.at c.send_on.new.pool (c.join_all.ensures.stage (arc_value c.self.inside.code)) (c.send_on.ensures.ended (arc_value c.self.inside.code))
     (c.send_on.ensures.left (arc_value c.self.inside.code)) (c.join_all.ensures.machine (arc_value c.self.inside.code))
     (c.join_all.ensures.rests (arc_value c.self.inside.code)) (c.send_on.ensures.rests (arc_value c.self.inside.code))
     c.release_all.new.self c.release_all.ensures
-    c.make_room.new.output.items c.append.new.list.items c.prints-3.result.now (c.prints-3.ensures (arc_value c.self.inside.code))
-    c.make_room.ensures.output c.append.ensures
-    c.make_room.new.text.items c.append-2.new.list.items c.as_slice-2.result.now c.in_ok-bytes.bytes.items c.prints.result.now
-    (c.prints.ensures (arc_value c.self.inside.code)) c.in_ok-bytes.ensures c.as_slice-2.ensures.value c.make_room.ensures.text c.append-2.ensures
-    c.make_room.new.journal.entries c.push.new.self.entries c.in_ok-entry.entry (c.in_ok-entry.ensures (arc_value c.self.inside.code))
-    c.make_room.ensures.entries c.push.ensures.entries c.in_ok-next.next c.in_ok-next.ensures c.requires.going
+    c.draft.new.self.output.items c.append.new.self.output.items c.prints.result.now (c.prints.ensures (arc_value c.self.inside.code))
+    c.in_ok-draft.ensures.output c.append.ensures.output
+    c.draft.new.self.text.items c.append.new.self.text.items c.in_ok-draft.draft.lines.items (c.in_ok-draft.ensures.lines (arc_value c.self.inside.code))
+    c.in_ok-draft.ensures.text c.append.ensures.text
+    c.draft.new.self.journal.entries c.append.new.self.journal.entries c.in_ok-draft.draft.entry (c.in_ok-draft.ensures.entry (arc_value c.self.inside.code))
+    c.in_ok-draft.ensures.journal c.append.ensures.journal c.in_ok-next.next c.in_ok-next.ensures.number c.requires.going

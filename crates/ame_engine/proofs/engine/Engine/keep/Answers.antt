@@ -7,6 +7,6 @@ invariant_of-self g c =
     let none : c.self.inside.stop ≡ None = search rules in
     record {
       whole = whole-kept g.M.Runner.meaning
-          _ c.args.self.now c.self.view_is c.args.why c.self.invariant.whole none c.requires.cause c.requires.leaves;
+          _ c.args.self.now c.self.view_is c.args.why c.self.invariant.whole none c.requires.apart c.requires.cause c.requires.leaves;
       places = c.self.invariant.places;
     }

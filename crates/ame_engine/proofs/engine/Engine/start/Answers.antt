@@ -13,18 +13,16 @@ invariant_of-result g c =
     let m = c.in_ok-machine.machine in
     let good : g.M.Runner.meaning.is_machine (arc_value c.args.code) m = search rules in
     let rests : g.M.Runner.meaning.stage (arc_value c.args.code) m ≡ starting_at (g.M.Runner.meaning.program (arc_value c.args.code)) = search rules in
-    let output : c.new-5.result.items ≡ [] = search rules in
-    let text : c.new-6.result.items ≡ [] = search rules in
-    let tried : c.new-8.result.items ≡ [] = search rules in
-    let certificates : c.new-9.result.items ≡ [] = search rules in
-    let none : vec_len c.new-8.result ≡ 0 = search rules in
+    let tried : c.new-6.result.items ≡ [] = search rules in
+    let certificates : c.new-7.result.items ≡ [] = search rules in
+    let none : vec_len c.new-6.result ≡ 0 = search rules in
     record {
       whole = whole-started g.M.Runner.meaning
           code c.args.limits m rests c.requires good (g.met.M.Runner.accepted (arc_value c.args.code))
-          _ _ _ _ _ _ _ _ _ _ _ _ _ c.new-3.ensures c.new-4.ensures c.new.ensures c.in_ok-memory.ensures c.in_ok-tasks.ensures
-          c.new-pool.ensures c.in_ok-room.ensures.ok c.add.ensures output text c.new-7.ensures tried certificates;
-      places = subst (λ (tasks : List Task). HasPlacesFor tasks (vec_len c.new-8.result) (vec_capacity c.new-8.result)) (sym c.in_ok-tasks.ensures)
-          (places-idle c.args.limits.seats (vec_len c.new-8.result) (vec_capacity c.new-8.result) (omega (arith, none)));
+          _ _ _ _ _ _ _ _ _ _ _ _ _ c.new-3.ensures c.new-4.ensures.journal c.new.ensures c.in_ok-memory.ensures c.in_ok-tasks.ensures
+          c.new-pool.ensures c.in_ok-room.ensures.ok c.add.ensures c.new-4.ensures.output c.new-4.ensures.text c.new-5.ensures tried certificates;
+      places = subst (λ (tasks : List Task). HasPlacesFor tasks (vec_len c.new-6.result) (vec_capacity c.new-6.result)) (sym c.in_ok-tasks.ensures)
+          (places-idle c.args.limits.seats (vec_len c.new-6.result) (vec_capacity c.new-6.result) (omega (arith, none)));
     }
 
 pub returns-clause-parts : goal.returns-clause-parts
@@ -33,14 +31,12 @@ returns-clause-parts g c =
     let m = c.in_ok-machine.machine in
     let good : g.M.Runner.meaning.is_machine (arc_value c.args.code) m = search rules in
     let rests : g.M.Runner.meaning.stage (arc_value c.args.code) m ≡ starting_at (g.M.Runner.meaning.program (arc_value c.args.code)) = search rules in
-    let output : c.new-5.result.items ≡ [] = search rules in
-    let text : c.new-6.result.items ≡ [] = search rules in
-    let tried : c.new-8.result.items ≡ [] = search rules in
-    let certificates : c.new-9.result.items ≡ [] = search rules in
+    let tried : c.new-6.result.items ≡ [] = search rules in
+    let certificates : c.new-7.result.items ≡ [] = search rules in
     parts-started g.M.Runner.meaning
     code c.args.limits m rests c.requires good (g.met.M.Runner.accepted (arc_value c.args.code))
-    _ _ _ _ _ _ _ _ _ _ _ _ _ c.new-3.ensures c.new-4.ensures c.new.ensures c.in_ok-memory.ensures c.in_ok-tasks.ensures
-    c.new-pool.ensures c.in_ok-room.ensures.ok c.add.ensures output text c.new-7.ensures tried certificates
+    _ _ _ _ _ _ _ _ _ _ _ _ _ c.new-3.ensures c.new-4.ensures.journal c.new.ensures c.in_ok-memory.ensures c.in_ok-tasks.ensures
+    c.new-pool.ensures c.in_ok-room.ensures.ok c.add.ensures c.new-4.ensures.output c.new-4.ensures.text c.new-5.ensures tried certificates
 
 pub returns-clause-state : goal.returns-clause-state
 returns-clause-state g c =
@@ -48,11 +44,9 @@ returns-clause-state g c =
     let m = c.in_ok-machine.machine in
     let good : g.M.Runner.meaning.is_machine (arc_value c.args.code) m = search rules in
     let rests : g.M.Runner.meaning.stage (arc_value c.args.code) m ≡ starting_at (g.M.Runner.meaning.program (arc_value c.args.code)) = search rules in
-    let output : c.new-5.result.items ≡ [] = search rules in
-    let text : c.new-6.result.items ≡ [] = search rules in
-    let tried : c.new-8.result.items ≡ [] = search rules in
-    let certificates : c.new-9.result.items ≡ [] = search rules in
+    let tried : c.new-6.result.items ≡ [] = search rules in
+    let certificates : c.new-7.result.items ≡ [] = search rules in
     state-started g.M.Runner.meaning
     code c.args.limits m rests c.requires good (g.met.M.Runner.accepted (arc_value c.args.code))
-    _ _ _ _ _ _ _ _ _ _ _ _ _ c.new-3.ensures c.new-4.ensures c.new.ensures c.in_ok-memory.ensures c.in_ok-tasks.ensures
-    c.new-pool.ensures c.in_ok-room.ensures.ok c.add.ensures output text c.new-7.ensures tried certificates
+    _ _ _ _ _ _ _ _ _ _ _ _ _ c.new-3.ensures c.new-4.ensures.journal c.new.ensures c.in_ok-memory.ensures c.in_ok-tasks.ensures
+    c.new-pool.ensures c.in_ok-room.ensures.ok c.add.ensures c.new-4.ensures.output c.new-4.ensures.text c.new-5.ensures tried certificates

@@ -1,4 +1,4 @@
--- Where the last notes among the entries so far stand.
+-- The places of the last notes among the entries so far.
 use Rattle.ame_engine.proofs.BlockedLemmas.{ArePlaces}
 use Rattle.ame_engine.proofs.engine.blocked.note_places.Given as goal
 

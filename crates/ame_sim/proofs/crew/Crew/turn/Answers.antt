@@ -5,6 +5,7 @@ use Rattle.ame_shell.specs.Shell.{shell_view, IsShell}
 use Rattle.ame_shell.specs.Turned.{IsInOrder, LeavesInOrder}
 use Rattle.ame_shell.proofs.TurnLemmas.{hand-stands}
 use Rattle.ame_sim.proofs.CrewLemmas.{crew-turned, turn-played}
+use Rattle.ame_sim.proofs.PreparedLemmas.{prepared-or-lacked}
 use Rattle.ame_sim.proofs.crew.Crew.turn.Goals as goal
 
 pub turn-member-requires : goal.turn-member-requires
@@ -32,7 +33,9 @@ returns-clause-played g c =
     let work = c.prepare_seat.new.work in
     turn-played g.M.Runner.meaning c.args.seat (stage_at g.M.Runner.meaning.stage engine.code work) _ _ _ c.turn-member.result.outcome c.turn-member.result.member
     c.place_wanted-wanted.result c.place_told.result c.cells.result c.self.view_is
-    (λ s e. (hand-stands g.M.Runner.meaning g.met.M.Runner.sound engine c.args.seat work c.prepare_seat.ensures.fits s e).0) c.turn-member.ensures.turned c.turn-member.ensures.member
+    (λ s e. (hand-stands g.M.Runner.meaning g.met.M.Runner.sound engine c.args.seat work c.prepare_seat.ensures.fits s e).0.on)
+    (prepared-or-lacked g.M.Runner.meaning g.met.M.Runner.sound engine c.args.seat work c.turn-member.result.outcome c.prepare_seat.ensures.fits c.turn-member.ensures.lacks)
+    c.turn-member.ensures.turned c.turn-member.ensures.member
     c.cells.ensures (c.place_wanted-wanted.ensures engine.code) c.place_told.ensures
 
 pub returns-clause-keeps : goal.returns-clause-keeps

@@ -12,4 +12,4 @@ pub returns : goal.returns
 returns g c =
     cells-filled g.V.Copied.same g.met.V.Copied.transitive c.args.stored.entries c.loop-l.stored.entries c.in-Some-first_key_value.first.now _ c.in-Some-first_key_value.field-0-0.now c.in-Some.last.now c.loop-l.l-counter
     c.loop-l.cells.items (let up = c.loop-l.auto.l-counter-end in let over = c.loop-l-test.false in omega arith) c.loop-l.invariant refl refl c.in_ok-copy.ensures (sym c.in-Some-first_key_value.ensures.value)
-    (λ k cell is. at-most c.in-Some.last.now k (c.in-Some.ensures.greatest k (ap is_some is))) (c.requires.near c.in-Some.last.now c.in-Some.field-0-1.now c.in-Some.ensures.value)
+    (λ k cell is. at-most c.in-Some.last.now k (c.in-Some.ensures.greatest k (ap is_some is))) c.if-last-ge-MOST_CELLS.false

@@ -1,9 +1,10 @@
 -- Renaming commutes with focus, fill, substitution and what a redex does.
 use Rattle.std.proofs.Common.{◌≡◌, ℕ, ◌+◌, ◌==◌, max, ℤ, Bool, true, false, Option, Some, None, option_map, if◌then◌else◌, refl, sym, ap, ◌∙◌}
-use Rattle.ame_term.specs.Tree.{OwnName, Head, Val, Tree, Trees, is_held}
+use Rattle.ame_term.specs.Tree.{Typ, OwnName, Head, Val, Tree, Trees, is_held}
 use Rattle.ame_term.specs.Frame.{Side, same_side}
 use Rattle.ame_term.specs.Context.{Focus, here, inside, focus, focus_first, fill, fill_first}
-use Rattle.ame_term.specs.Act.{Act, act_of, rest_act, do_act, if_act, call_act, result_of, operator_act, set_act, block_act, unary_act, binary_act, Sides, StepName, step_name, same_step, making, made_there, is_step_told, makes, device_answer}
+use Rattle.ame_term.proofs.OperatorLemmas.{IsScalar, result-is-scalar}
+use Rattle.ame_term.specs.Act.{Act, act_of, rest_act, do_act, if_act, call_act, operator_act, set_act, block_act, unary_act, binary_act, Sides, StepName, step_name, same_step, making, made_there, is_step_told, makes, device_answer}
 use Rattle.ame_term.specs.Height.{height, held_height, held_heights}
 use Rattle.ame_term.specs.Substitute.{binds, substitute, substitute_all, with_own, entered}
 use Rattle.ame_term.specs.State.{at_unprotected, at_value, closed_value}
@@ -196,17 +197,14 @@ module _ (f : ℕ → ℕ) where
   if-renamed (Val.Fun head body) a b = refl
   if-renamed (Val.Pair first second) a b = refl
 
-  result-renamed : (op : Op) (x y : ℤ) → renamed_value f (result_of op x y) ≡ result_of op x y
+  scalar-renamed : (v : Val) (t : Typ) → IsScalar v t → renamed_value f v ≡ v
   unfolding renamed_value
-  result-renamed Op.Add x y = refl
-  result-renamed Op.Sub x y = refl
-  result-renamed Op.Mul x y = refl
-  result-renamed Op.Less x y = refl
-  result-renamed Op.Same x y = refl
+  scalar-renamed _ _ (IsScalar.bool b) = refl
+  scalar-renamed _ _ (IsScalar.int n) = refl
 
   operator-renamed : (op : Op) (v w : Val) → operator_act op (renamed_value f v) (renamed_value f w) ≡ renamed_act (operator_act op v w)
   unfolding renamed renamed_value
-  operator-renamed op (Val.Int x) (Val.Int y) = ap (λ (z : Val). Act.Becomes (Tree.Held z)) (sym (result-renamed op x y))
+  operator-renamed op (Val.Int x) (Val.Int y) = ap (λ (z : Val). Act.Becomes (Tree.Held z)) (sym (scalar-renamed _ _ (result-is-scalar op x y)))
   operator-renamed op (Val.Int x) Val.Unit = refl
   operator-renamed op (Val.Int x) (Val.Bool b) = refl
   operator-renamed op (Val.Int x) (Val.Loc l) = refl

@@ -38,7 +38,7 @@ freed-met r i fresh answer calm m =
     let same = no-step m.made i m.used r.state m.there (omega arith) leads in
     calm (ap (is_tall Side.Unprotected i) same ∙ ap (λ (side : Side). is_tall side i m.there) (sym on) ∙ m.tall)
 
--- where a member comes in, the state stays
+-- if a member comes in, the state stays
 arrival-state : (r t : Replayed) (i : ℕ) → is_at_unprotected i r.state ≡ true → replay_entry r (ran i 0 []) ≡ Some t → t.state ≡ r.state
 unfolding replay_entry
 arrival-state r t i stands e = by (is_inside r i) e

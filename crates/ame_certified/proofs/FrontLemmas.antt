@@ -122,9 +122,9 @@ fragment-one i n s a b x y t u e one other =
     let second : steps Label.Step i n (locations b) v ≡ Some u = sym (ap (option_and_then (λ (z : State). steps Label.Step i n (locations b) z)) begins) ∙ other in
     steps-one Label.Step i n v a b x y t u e first second)
 
--- Where a run leads
+-- The state to which a run leads
 
--- the steps of a run lead to a state where the member is what the run has become
+-- the steps of a run lead to a state in which the member is what the run has become
 pub record LeadsAlong (i : ℕ) (leads : Option State) (p : LocalState) : Type 0 where
   pub behind : State
   pub is : leads ≡ Some behind

@@ -3,10 +3,9 @@ pub mod FrontLemmas
 pub mod MetLemmas
 pub mod RowLemmas
 pub mod RunLemmas
+pub mod EndedLemmas
 pub mod WayLemmas
 pub mod FreedLemmas
 pub mod WeakLemmas
 pub mod TriedLemmas
 pub mod WeakJournals
-pub mod MachineLemmas
-pub mod WorkLemmas

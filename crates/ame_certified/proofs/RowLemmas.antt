@@ -1,4 +1,4 @@
--- What a seat has at work meets no form that would become a value that is too high, if its steps are at none.
+-- The work of a seat meets no form that would become a value that is too high, if its steps are at none.
 use Rattle.std.proofs.Common.{◌≡◌, ℕ, ◌+◌, ◌≤◌, Bool, false, [], refl, ap, ◌∙◌, arith}
 use Rattle.ame_term.specs.Tree.{Val}
 use Rattle.ame_term.specs.Frame.{Side}
@@ -24,7 +24,7 @@ use Rattle.ame_protocol.proofs.Engine.MemoryLemmas.{memory-committed}
 use Rattle.ame_protocol.proofs.Engine.PoolLemmas.{found-machine}
 use Rattle.ame_protocol.proofs.Visits.PlaceLemmas.{calm, term-there, on-side}
 use Rattle.ame_check.specs.Entries.{MeetsTall}
-use Rattle.ame_certified.specs.LowRun.{RowGoesLow, WorkGoesLow}
+use Rattle.ame_shell.specs.Low.{RowGoesLow, WorkGoesLow}
 use Rattle.ame_certified.proofs.MetLemmas.{protected-met, free-met}
 
 module _ (parts : Parts) (s : Simulates parts) (seat : ℕ) (attempt : Attempt) where
@@ -59,7 +59,7 @@ module _ (parts : Parts) (s : Simulates parts) (seat : ℕ) (attempt : Attempt) 
 -- a row that is noted
 module _ (s : State) (h : Simulates s.parts) (seat : ℕ) where
   pub noted-met : (kind : EntryKind) (task : Task) (side : Side) (number n : ℕ) (p : LocalState) → MayBeNoted s.parts seat task side number n p
-      → task_at s.parts.tasks seat ≡ task → WorkGoesLow s seat task n → MeetsTall h.r (note_entry kind seat number n p) → ⊥
+      → task_at s.parts.tasks seat ≡ task → WorkGoesLow s.parts seat task n → MeetsTall h.r (note_entry kind seat number n p) → ⊥
   noted-met kind _ _ _ _ _ (MayBeNoted.running attempt n p place valid) is low =
       row-met s.parts h seat attempt is n p place valid low (note_entry kind seat attempt.tried.number n p) refl refl refl
   noted-met kind _ _ _ _ _ (MayBeNoted.free attempt n p ran) is low =

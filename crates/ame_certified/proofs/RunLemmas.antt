@@ -25,12 +25,12 @@ use Rattle.ame_check.specs.Entries.{MeetsTall}
 use Rattle.ame_check.specs.Judge.{Judges}
 use Rattle.ame_check.specs.declared.judging.Judged.{Judged}
 use Rattle.ame_certified.specs.Low.{StaysLow}
-use Rattle.ame_certified.specs.LowRun.{WorkGoesLow, GoesLowBy, GoLow}
+use Rattle.ame_shell.specs.Low.{WorkGoesLow, GoesLowBy, GoLow}
 use Rattle.ame_certified.specs.RoundTrip.{IsRoundTrip, IsNeverInvalid}
 use Rattle.ame_certified.proofs.JudgedLemmas.{judged-valid, never-invalid, none-low, one-low}
 use Rattle.ame_certified.proofs.RowLemmas.{row-met, visited-met, noted-met}
 
--- What no event changes
+-- Facts that no event changes
 
 undo-program : (parts : Parts) → (undo_turn parts).program ≡ parts.program
 undo-program parts = by parts.stopped
@@ -89,10 +89,10 @@ module _ (s : State) (h : Sound s) (low : StaysLow s.parts.program (whole_journa
   none : StaysLow s.parts.program (whole_journal s.parts ++ [])
   none = subst (StaysLow s.parts.program) (sym (append-nil (whole_journal s.parts))) low
 
-  work : (seat n : ℕ) (t : Task) → task_at s.parts.tasks seat ≡ t → WorkGoesLow s seat (task_at s.parts.tasks seat) n → WorkGoesLow s seat t n
-  work seat n t is goes = subst (λ (x : Task). WorkGoesLow s seat x n) is goes
+  work : (seat n : ℕ) (t : Task) → task_at s.parts.tasks seat ≡ t → WorkGoesLow s.parts seat (task_at s.parts.tasks seat) n → WorkGoesLow s.parts seat t n
+  work seat n t is goes = subst (λ (x : Task). WorkGoesLow s.parts seat x n) is goes
 
-  event-low : (e : Event) → May e s → GoesLowBy e s → StaysLow s.parts.program (whole_journal s.parts ++ entries_told e)
+  event-low : (e : Event) → May e s → GoesLowBy e s.parts → StaysLow s.parts.program (whole_journal s.parts ++ entries_told e)
   event-low (Event.End seat attempt steps place woken) may goes =
       one _ (row-met s.parts h.stands seat attempt may.1.task steps place may.1.used may.2 (work seat steps (Task.Running attempt) may.1.task goes) _ refl refl refl)
   event-low (Event.Leave seat attempt steps place woken) may goes =
@@ -127,7 +127,7 @@ pub started-low : (program : Tree) (signature : Signature) (limits : Limits) (en
 started-low program signature limits end es accepted slice run goes =
     run-low es (started_state program signature limits) end (sound-start program signature limits accepted slice) run goes (none-low program)
 
--- What its journal is judged to be
+-- The judgment of its journal
 
 module _ (s end : State) (es : List Event) (judged : Judged) (h : Sound s) (run : Follows s es end) where
   replays : (t : Sound end) → replay s.parts.program (whole_journal s.parts ++ entries_along es) ≡ Some t.stands.r

@@ -87,7 +87,7 @@ note-made : (r : Replayed) (t : Try) → side_at t.certificate.number r.state �
 unfolding replay_entry
 note-made r t on holds = kind-made t.failing r t.certificate.number t.certificate.steps t.certificate.fresh on holds
 
--- Tries from here, where n labels were made
+-- Tries from here, after n labels
 
 abbrev pub IsGoodFrom : ℕ → Weak → List Label → Try → Type 0
 IsGoodFrom n w labels t =

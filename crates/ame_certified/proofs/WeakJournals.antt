@@ -1,4 +1,4 @@
--- What the journal of a weak run within the bounds is judged to be.
+-- The judgment of the journal of a weak run within the bounds.
 use Rattle.std.proofs.Common.{◌≡◌, ℤ, List, [], ◌∷◌, ◌++◌, length, None, refl, sym, ap, subst, arith}
 use Rattle.std.specs.List.{AllByRecursion}
 use Rattle.ame_term.specs.Tree.{Tree}

@@ -123,7 +123,7 @@ module _ (signature : Signature) (program : Tree) (journal : List Entry) (r : Re
   no-more : StaysLow program (journal ++ [])
   no-more = subst (StaysLow program) (sym (append-nil journal)) h.low
 
-  -- the state stays where no entry is added
+  -- the state stays if no entry is added
   still : (behind : Replayed) → replay_from r [] ≡ Some behind → r.state ≡ behind.state
   still behind e = let same : r ≡ behind = cc in ap (λ (z : Replayed). z.state) same
 

@@ -1,4 +1,3 @@
 pub mod Low
 pub mod RoundTrip
-pub mod LowRun
 pub mod WeakTries

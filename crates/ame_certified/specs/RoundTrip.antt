@@ -1,4 +1,4 @@
--- What the journal of a run is judged to be.
+-- The judgment of the journal of a run.
 use Rattle.std.specs.Prelude.{◌≡◌, ℤ, List, ⊤}
 use Rattle.ame_check.specs.declared.judging.Judged.{Judged}
 use Rattle.ame_check.specs.declared.judging.Judged.TheVariants as judged

@@ -26,7 +26,7 @@ pub record AreMadeWithin (w : Weak) (i n : ℕ) (fresh : List ℕ) : Type 0 wher
 abbrev pub IsTriedWithin : Weak → Try → Type 0
 IsTriedWithin w t = AreMadeWithin w t.certificate.number t.certificate.steps t.certificate.fresh
 
--- and of each try where the labels before it lead
+-- and of each try in the state to which the labels before it lead
 abbrev pub AreTriedWithin : Tree → List Label → List Try → Type 0
 AreTriedWithin program labels tries =
     AllByRecursion (λ t. (front rest : List Label) (w : Weak) → labels ≡ front ++ rest → length front ≡ t.after → IsWeakRun program front w → IsTriedWithin w t) tries

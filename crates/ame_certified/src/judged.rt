@@ -1,4 +1,4 @@
-//! What `judge` answers of a journal that replays.
+//! The judge's answer to a journal that replays.
 
 ghost use Rattle.std.specs.Prelude.{◌≡◌, List, Some};
 ghost use Rattle.ame_term.specs.Tree.{Tree};

@@ -1,11 +1,13 @@
 //! Theorems on what `judge` answers of the journals of runs: each a function that does nothing, whose contract is the statement.
 #![tactic(auto)]
 
+mod ended;
 mod judged;
 mod machines;
 mod runs;
 mod weak;
 
+pub use ended::{bases_stay_low, ended_runs_are_judged_valid};
 pub use judged::{journals_are_judged_valid, journals_are_never_invalid};
 pub use machines::{machines_make_low_events, machines_stay_low};
 pub use runs::{

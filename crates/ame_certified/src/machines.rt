@@ -1,4 +1,4 @@
-//! How the machines of a run keep its steps low.
+//! The machines of a run keep its steps low.
 
 ghost use Rattle.std.specs.Prelude.{◌≡◌, ◌≢◌, ◌+◌, ◌++◌, ◌∷◌, ℕ, true, false, List, [], Some};
 ghost use Rattle.ame_term.specs.Tree.{Val, Tree};
@@ -12,9 +12,9 @@ ghost use Rattle.ame_protocol.specs.declared.types.Task.{Task};
 ghost use Rattle.ame_protocol.specs.Engine.Parts.{task_at, term_at};
 ghost use Rattle.ame_protocol.specs.Engine.Simulates.{Simulates};
 ghost use Rattle.ame_protocol.specs.Event.State.{State};
-ghost use Rattle.ame_certified.specs.LowRun.{MachineGoesLow, WorkGoesLow};
+ghost use Rattle.ame_shell.specs.Low.{MachineGoesLow, WorkGoesLow};
 
-/// Says that a machine on a run makes no step at a tall form: not as it advances, nor by the step that it makes where it needs
+/// Says that a machine on a run makes no step at a tall form: not as it advances, nor by the step that it makes if it needs
 /// something else, nor if it is fed there.
 pub fn machines_stay_low()
     ensures advances { (start : Tree) (inputs : List Val) (fuel : ℕ) (m n : MachineView) → OnRun start inputs m
@@ -30,10 +30,10 @@ pub fn machines_stay_low()
 /// these and in one step more.
 pub fn machines_make_low_events()
     ensures running { (s : State) (seat : ℕ) (attempt : Attempt) (m : MachineView) → task_at s.parts.tasks seat ≡ Task.Running attempt → m.inside ≡ false
-        → MachineGoesLow s seat attempt m m.steps → WorkGoesLow s seat (task_at s.parts.tasks seat) m.steps }
+        → MachineGoesLow s.parts seat attempt m m.steps → WorkGoesLow s.parts seat (task_at s.parts.tasks seat) m.steps }
     ensures free { (s : State) (seat : ℕ) (attempt : Attempt) (m : MachineView) → Simulates s.parts → task_at s.parts.tasks seat ≡ Task.Free attempt
-        → m.inside ≡ true → MachineGoesLow s seat attempt m m.steps → WorkGoesLow s seat (task_at s.parts.tasks seat) m.steps }
+        → m.inside ≡ true → MachineGoesLow s.parts seat attempt m m.steps → WorkGoesLow s.parts seat (task_at s.parts.tasks seat) m.steps }
     ensures visit { (s : State) (seat : ℕ) (attempt : Attempt) (m : MachineView) → Simulates s.parts → task_at s.parts.tasks seat ≡ Task.Free attempt
         → m.inside ≡ true → OnRun (term_at s.parts.pool attempt.tried.number) (row_at s.parts.memory.rows seat).inputs m
-        → MachineGoesLow s seat attempt m m.steps → need_of m ≢ Need.Tall → WorkGoesLow s seat (task_at s.parts.tasks seat) (m.steps + 1) }
+        → MachineGoesLow s.parts seat attempt m m.steps → need_of m ≢ Need.Tall → WorkGoesLow s.parts seat (task_at s.parts.tasks seat) (m.steps + 1) }
 {}

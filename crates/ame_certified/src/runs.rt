@@ -1,4 +1,4 @@
-//! What `judge` answers of the journals of an engine's runs.
+//! The judge's answers to the journals of an engine's runs.
 
 ghost use Rattle.std.specs.Prelude.{◌++◌, ◌≤◌, ℤ, List};
 ghost use Rattle.ame_term.specs.Tree.{Tree};
@@ -13,7 +13,7 @@ ghost use Rattle.ame_protocol.specs.Event.Event.{Event};
 ghost use Rattle.ame_protocol.specs.Event.Runs.{Follows, entries_along};
 ghost use Rattle.ame_protocol.specs.Event.Sound.{Sound};
 ghost use Rattle.ame_certified.specs.Low.{StaysLow};
-ghost use Rattle.ame_certified.specs.LowRun.{GoLow};
+ghost use Rattle.ame_shell.specs.Low.{GoLow};
 ghost use Rattle.ame_certified.specs.RoundTrip.{IsRoundTrip, IsNeverInvalid};
 
 /// Says that events add no entry that passes a tall form, if none of their steps is at one.

@@ -1,4 +1,4 @@
-//! What `judge` answers of the journals of weak runs.
+//! The judge's answers to the journals of weak runs.
 
 ghost use Rattle.std.specs.Prelude.{◌≡◌, List, [], ◌∷◌, ◌++◌, None};
 ghost use Rattle.ame_term.specs.Tree.{Tree};

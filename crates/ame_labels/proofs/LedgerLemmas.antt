@@ -1,4 +1,4 @@
--- Who is inside, label by label, and how many entries there are.
+-- The members inside, label by label, and the number of entries.
 use Rattle.std.proofs.Common.{◌≡◌, ℕ, suc, ◌+◌, ◌<◌, ◌≤◌, ◌==◌, ◌++◌, Bool, true, false, not, List, [], ◌∷◌, length, drop, get_or, filter, refl, sym, ap, ◌∙◌, arith, cond, eqb-true}
 use Rattle.std.specs.Prelude.{◌&&◌, ◌||◌, None}
 use Rattle.std.specs.BTreeMap.{is_at}
@@ -74,7 +74,7 @@ pub leaves-there : (old added : Ledger) (inside : BTreeSet ℕ) → CountsMore 1
     → LedgerPasses Label.Leave old (record added { inside = inside })
 leaves-there old added inside m update p s = (ledger-entered p added inside (ledger-same p 1 old added m s) update, m.count)
 
--- an entry behind the arrival
+-- an entry after the arrival
 one-behind : (i : ℕ) (entry : Entry) (p : Place) (old arrived added : Ledger) → arrived.count ≡ old.count + length (arrival p.inside i) → CountsMore 1 arrived added
     → added.count ≡ old.count + length (arrival p.inside i ++ entry ∷ [])
 one-behind i entry p old arrived added came_in m = omega (arith, m.count, came_in, length-append (arrival p.inside i) (entry ∷ []))

@@ -75,7 +75,7 @@ tries_more n tries rest others t first old new a parts after names numbers state
       (TellsLabels.tried old.page labels t others old.entries w before (after ∙ sym size)));
 }
 
--- Labels behind others are made in the weak state to which those lead.
+-- Labels after others are made in the weak state to which those lead.
 run_from : (o : Option Weak) (front rest : List Label) → ((v : Weak) → weak_run v (front ++ rest) ≡ option_and_then (λ u. weak_run u rest) (weak_run v front))
     → option_and_then (λ v. weak_run v (front ++ rest)) o ≡ option_and_then (λ u. weak_run u rest) (option_and_then (λ v. weak_run v front) o)
 run_from None front rest each = refl
@@ -85,7 +85,7 @@ runs_on : (w : Weak) (front rest : List Label) → weak_run w (front ++ rest) �
 runs_on w [] rest = refl
 runs_on w (label ∷ front) rest = run_from (weak_after w label) front rest (λ v. runs_on v front rest)
 
--- what is told leads to the weak state that is told
+-- the rows lead to the weak state of their labels
 leads_there : (names : List (List ℕ)) (numbers : List ℕ) (w : Weak) (tries : List Try) (page : List ℕ) (labels : List Label) (rest : List Try) (entries : ℕ) (v : Weak)
     → TellsLabels names numbers w tries page labels rest entries v → weak_run w labels ≡ Some v
 leads_there names numbers w tries _ _ _ _ _ TellsLabels.none = refl
@@ -96,7 +96,7 @@ leads_there names numbers w tries _ _ _ _ _ (TellsLabels.told page labels rest e
 leads_there names numbers w tries _ _ _ _ _ (TellsLabels.tried page labels t rest entries v before after) =
     leads_there names numbers w tries page labels (t ∷ rest) entries v before
 
--- The first k labels are told, and these tries are left.
+-- The first k labels have rows, and these tries are left.
 pub record IsToldTo (labels : List Label) (tries : List Try) (k : ℕ) (rest : List Try) (first o : Order) : Type 0 where
   pub within : k ≤ length labels
   pub names : o.names ≡ first.names

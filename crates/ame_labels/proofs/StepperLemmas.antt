@@ -145,7 +145,7 @@ last-closed i fresh m old mid inside none takes so update =
     MakesLast.closes none refl (adds-inside (Label.Close i) old mid inside (takes.made so))
     (λ k. update k ∙ ap (λ (z : BTreeSet ℕ). cond (is_at (nat_cmp i) k) false (contains nat_cmp z k)) takes.inside)
 
--- Who is inside
+-- the members inside
 
 module _ (r : Replayed) (i : ℕ) (s : State) (old new : BTreeSet ℕ) (stands : (k : ℕ) → contains nat_cmp old k ≡ is_inside r k) where
   pub inside-entered : ((k : ℕ) → contains nat_cmp new k ≡ cond (is_at (nat_cmp i) k) true (contains nat_cmp old k))
@@ -174,7 +174,7 @@ stays-outside s i term idle there refused =
     by false e h = cc
 
 module _ (r : Replayed) (entry : Entry) (old : Stepper) (stands : IsAt r old) where
-  -- labels that an entry has, from where it stands
+  -- labels that an entry has, from its beginning
   makes-labels : (new : Stepper) (labels : List Label) (t : Replayed) → AddsAll labels old new → HasLabels r entry labels t → state_of new.state ≡ t.state
       → ((k : ℕ) → contains nat_cmp new.inside k ≡ is_inside t k) → MakesLabels r entry old new
   makes-labels new labels t adds has same inside = record {

@@ -5,14 +5,14 @@ use Rattle.ame_weak.specs.Straight.{Place, outset, entries_of_label, past}
 use Rattle.ame_weak.specs.Tries.{noted_tries, tries_behind}
 use Rattle.ame_weak.specs.declared.tries.Try.{Try}
 
--- how many entries the journal has up to each label from here, which is after n labels, where m entries were made by those
+-- the number of entries that the journal has up to each label from here, after n labels that made m entries
 abbrev pub counts_from : ℕ → ℕ → List Try → Place → List Label → List ℕ
 counts_from n m tries p [] = []
 counts_from n m tries p (label ∷ labels) =
     let told = m + length (noted_tries n tries) + length (entries_of_label p label) in
     told ∷ counts_from (n + 1) told (tries_behind n tries) (past p label) labels
 
--- the entry of the fragment that is active at a label up to which there are m entries; behind the label it is the later one
+-- the entry of the fragment that is active at a label up to which there are m entries; after the label it is the later one
 abbrev pub active_entry_at : Label → ℕ → ℕ → ℕ
 active_entry_at Label.Leave m later = m
 active_entry_at Label.End m later = m

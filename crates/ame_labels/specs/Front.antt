@@ -5,7 +5,7 @@ use Rattle.ame_journal.specs.declared.entry.Entry.{Entry}
 use Rattle.ame_journal.specs.Replayed.{Replayed}
 use Rattle.ame_labels.specs.Stepped.{ShowsSteps}
 
--- how many of the first entries have at most so many steps together
+-- the number of first entries that have at most this many steps together
 unfoldable pub shown_from : ℕ → List Entry → ℕ
 shown_from left [] = 0
 shown_from left (entry ∷ entries) = if nat_lt left entry.steps then 0 else suc (shown_from (left - entry.steps) entries)
@@ -13,7 +13,7 @@ shown_from left (entry ∷ entries) = if nat_lt left entry.steps then 0 else suc
 abbrev pub shown_count : List Entry → ℕ
 shown_count entries = shown_from 10000 entries
 
--- that so many entries aren't shown
+-- the words for entries that aren't shown
 abbrev pub rest_words : ℕ → List ℕ
 rest_words n = if n == 0 then [] else codes "further entries aren't shown: with them there are more than 10,000 steps\n"
 

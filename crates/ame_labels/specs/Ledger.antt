@@ -1,4 +1,4 @@
--- What the code keeps that counts the entries of labels.
+-- The ledger that counts the entries of labels.
 use Rattle.std.specs.Prelude.{◌≡◌, ℕ, ◌+◌, ◌==◌, length}
 use Rattle.std.specs.List.{list_any}
 use Rattle.std.specs.BTreeSet.{contains}
@@ -7,12 +7,12 @@ use Rattle.ame_term.specs.declared.semantics.Label.{Label}
 use Rattle.ame_weak.specs.Straight.{Place, arrival, came, entries_of_label, past}
 use Rattle.ame_labels.specs.declared.ledger.Ledger.{Ledger}
 
--- who is inside, told by look-up, and the member that was active last
+-- the members inside, as a set, and the member that was active last
 pub record IsLedgerAt (p : Place) (l : Ledger) : Type 0 where
   pub inside : (i : ℕ) → contains nat_cmp l.inside i ≡ list_any (λ j. j == i) p.inside
   pub number : l.number ≡ p.number
 
--- a label's entries are counted, and it stands behind the label
+-- a label's entries are counted, and the ledger is after the label
 abbrev pub LedgerPasses : Label → Ledger → Ledger → Type 0
 LedgerPasses label old new = (p : Place) → IsLedgerAt p old → IsLedgerAt (past p label) new × (new.count ≡ old.count + length (entries_of_label p label))
 

@@ -1,4 +1,4 @@
--- What the code keeps that tells the labels of a weak run.
+-- The state between the rows of a weak run's labels.
 use Rattle.std.specs.Prelude.{◌≡◌, ℕ, ◌+◌, List, ◌++◌, length, get_or, Some}
 use Rattle.ame_lex.specs.Bytes.{Text}
 use Rattle.ame_term.specs.declared.semantics.Label.{Label}

@@ -72,7 +72,7 @@ abbrev pub held_text : List Text → Option Val → List ℕ
 held_text names None = []
 held_text names (Some v) = term_text names (Tree.Held v)
 
--- what a location holds, if one is told
+-- the value of a location, if one is given
 abbrev pub stored_words : List Text → State → Option ℕ → List ℕ
 stored_words names t None = []
 stored_words names t (Some l) = codes "  ; @" ++ decimal l ++ codes " = " ++ held_text names (at t.store l)
@@ -90,9 +90,9 @@ label_row names s label t =
 
 -- the line before the rows of entry n, which is one of member i
 abbrev pub entry_heading : ℕ → ℕ → List ℕ
-entry_heading n i = codes "entry " ++ decimal n ++ codes ", fragment " ++ decimal i ++ codes "\n"
+entry_heading n i = codes "entry " ++ decimal n ++ codes ", task " ++ decimal i ++ codes "\n"
 
--- The rows of labels from a state, each of which is legal where those before it lead.
+-- The rows of labels from a state; each label is legal after those before it.
 pub data Rows (names : List Text) (s : State) : List Label → List ℕ → State → Type 0 where
   none : Rows names s [] [] s
   more : (labels : List Label) (page : List ℕ) (t u : State) (label : Label) → Rows names s labels page t → after t label ≡ Some u →

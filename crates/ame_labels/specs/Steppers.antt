@@ -1,4 +1,4 @@
--- What the functions of a stepper add.
+-- The rows that the functions of a stepper append.
 use Rattle.std.specs.Prelude.{◌≡◌, ℕ, List, [], ◌∷◌, ◌++◌, Bool, true, false, map, length, cond, Option, Some, None, ℤ}
 use Rattle.std.specs.BTreeMap.{is_at}
 use Rattle.std.specs.BTreeSet.{contains}
@@ -46,7 +46,7 @@ abbrev pub step_label : Option ℕ → StepKind → Label
 step_label None kind = Label.Step kind
 step_label (Some i) kind = Label.Free i kind
 
--- a step of this kind takes the front of these locations and leaves the rest, and calls no device
+-- a step of this kind takes the first of these locations and leaves the rest, and calls no device
 pub record Uses (kind : StepKind) (fresh rest : List ℕ) : Type 0 where
   pub made : fresh ≡ fresh_of kind ++ rest
   pub silent : device_answer kind ≡ None

@@ -33,14 +33,14 @@ touched_at (Some StepKind.Read) term = read_location term
 touched_at (Some StepKind.Peek) term = read_location term
 touched_at kind term = changed_location kind term
 
--- what a location holds, if one is told
+-- the value of a location, if one is given
 abbrev pub touched_words : List Text → State → Option ℕ → List ℕ
 touched_words names t None = []
 touched_words names t (Some l) = codes "@" ++ decimal l ++ codes " = " ++ held_text names (at t.store l)
 
 -- Integers
 
--- an integer, where a term is one
+-- an integer, if a term is one
 abbrev pub integer_words : Tree → List ℕ
 integer_words (Tree.Held (Val.Int n)) = signed_decimal n
 integer_words _ = []
@@ -56,7 +56,7 @@ abbrev pub said_by : Option Tree → List ℕ
 said_by None = []
 said_by (Some term) = said_at (focus term)
 
--- what a reduction of a term tells others, and what it is answered
+-- what a term's reduction sends to others, and its answer
 abbrev pub said_words : Option StepKind → Option Tree → List ℕ
 said_words (Some StepKind.Print) term = said_by term
 said_words (Some (StepKind.Device answer)) term = said_by term ++ codes " = " ++ signed_decimal answer
@@ -78,7 +78,7 @@ lane_width (Label.Free i kind) = 22
 lane_width (Label.Close i) = 22
 lane_width _ = 0
 
--- what a reduction does, with spaces where more is told of it
+-- a reduction in words, padded if more follows
 abbrev pub step_deed : StepKind → List ℕ
 step_deed StepKind.Local = codes "  local"
 step_deed (StepKind.Alloc l) = codes "  alloc    "
@@ -116,7 +116,7 @@ behind_label names v touched = touched_words names v.state touched ++ codes "\n"
 abbrev pub weak_row : List Text → ℕ → ℕ → Weak → Label → Weak → List ℕ
 weak_row names n entry w label v = before_label n entry w label ++ behind_label names v (touched_at (kind_of label) (reduced_term w.state label))
 
--- the row of a try, the note of which is this entry
+-- the row of a try whose note is this entry
 unfoldable pub taken_back_row : ℕ → Try → List ℕ
 taken_back_row entry t =
     codes "      " ++ column 6 entry ++ column 9 t.certificate.number ++ codes "  was tried, and taken back behind step "
@@ -124,22 +124,22 @@ taken_back_row entry t =
 
 -- the line that names the columns
 abbrev pub weak_heading : List ℕ
-weak_heading = codes "label  entry  fragment   protected code        unprotected code\n"
+weak_heading = codes "label  entry      task   protected code        unprotected code\n"
 
--- how many entries there are behind a label, which goes into this entry: what a fragment does goes into the entry of its end
+-- the number of entries after a label that goes into this entry: the steps of a fragment go into the entry of its end
 abbrev pub entries_after : Label → ℕ → ℕ → ℕ
 entries_after (Label.Activate i) entry entries = entries
 entries_after (Label.Step kind) entry entries = entries
 entries_after _ entry entries = entry
 
--- of the tries that aren't told yet, which come in this order, none stands behind n labels
+-- none of the tries without a row, which come in this order, stands after n labels
 abbrev pub NoneIsNext : ℕ → List Try → Type 0
 NoneIsNext n [] = ⊤
 NoneIsNext n (t ∷ later) = t.after ≢ n
 
--- A page tells labels of a weak run and the tries between them. Each row tells the next label, with its entry by these numbers, which is legal in the
--- weak state to which the labels above it lead; or the next try, which was made after exactly the labels above it, with the entry behind those so far.
--- A label is told once no such try is left. Behind the page and its labels stand the tries that are left, how many entries there are, and the weak state.
+-- A page has rows for labels of a weak run and for the tries between them. Each row is of the next label, with its entry by these numbers, legal in the
+-- weak state to which the labels above it lead; or of the next try, which was made after exactly the labels above it, with the next entry.
+-- A label has its row once no such try is left. After the page and its labels come the tries that are left, the number of entries, and the weak state.
 pub data TellsLabels (names : List Text) (numbers : List ℕ) (w : Weak) (tries : List Try) : List ℕ → List Label → List Try → ℕ → Weak → Type 0 where
   none : TellsLabels names numbers w tries weak_heading [] tries 0 w
   told : (page : List ℕ) (labels : List Label) (rest : List Try) (entries : ℕ) (v u : Weak) (label : Label)
@@ -151,7 +151,7 @@ pub data TellsLabels (names : List Text) (numbers : List ℕ) (w : Weak) (tries 
       → TellsLabels names numbers w tries page labels (t ∷ rest) entries v → t.after ≡ length labels
       → TellsLabels names numbers w tries (page ++ taken_back_row (entries + 1) t) labels rest (entries + 1) v
 
--- The page tells all these labels, and the tries in order, each where it belongs; none that is left stands behind the last label. Where the list has
+-- The page has rows for all these labels, and for the tries in order, each in its place; none that is left stands after the last label. If the list has
 -- the tries in the order in which they were made, those that are left were made after more labels (`left_behind` of `proofs/OrderLemmas`).
 pub record TellsOrder (names : List Text) (numbers : List ℕ) (w : Weak) (tries : List Try) (labels : List Label) (page : List ℕ) : Type 0 where
   pub behind : Weak

@@ -15,7 +15,7 @@ use ame_strong::StrongState;
 use ame_term::{Label, Loc, NoMemory, Split, StepKind, Term, Value, copy_value, split};
 use std::alloc::Global;
 
-/// The reduction that a label makes.
+/// Returns the reduction that a label makes.
 pub(crate) fn kind_of(label: Label) -> Option<StepKind>
     ensures { result ≡ spec.kind_of label }
 {
@@ -25,7 +25,7 @@ pub(crate) fn kind_of(label: Label) -> Option<StepKind>
     }
 }
 
-/// The term of the member that a label reduces, lets go or closes.
+/// Returns the term of the member that a label reduces, lets go or closes.
 pub(crate) fn reduced_term(state: &StrongState, label: Label) -> Option<&Term>
     ensures { option_map (λ term. tree_of term.now) result ≡ spec.reduced_term (state_of state.now) label }
 {
@@ -36,7 +36,7 @@ pub(crate) fn reduced_term(state: &StrongState, label: Label) -> Option<&Term>
     }
 }
 
-/// What a label does, and the term that it reduces. The names are as before.
+/// Returns what a label does, and the term that it reduces. The names are as before.
 pub(crate) fn row_before(
     alloc: Global,
     names: &mut Vec<Vec<u8>>,
@@ -57,7 +57,7 @@ pub(crate) fn row_before(
     Ok(row.into_bytes())
 }
 
-/// The location whose value a label changes.
+/// Returns the location whose value a label changes.
 pub(crate) fn changed_location(term: Option<&Term>, label: Label) -> Option<Loc>
     ensures { option_map (λ l. l.0) result ≡ spec.changed_location (spec.kind_of label) (option_map (λ t. tree_of t.now) term.entry) }
 {
@@ -68,7 +68,7 @@ pub(crate) fn changed_location(term: Option<&Term>, label: Label) -> Option<Loc>
     }
 }
 
-/// The location to which the redex of a term writes.
+/// Returns the location to which the redex of a term writes.
 fn target_of(term: Option<&Term>) -> Option<Loc>
     ensures { option_map (λ l. l.0) result ≡ target_of (option_map (λ t. tree_of t.now) term.entry) }
 {
@@ -78,7 +78,7 @@ fn target_of(term: Option<&Term>) -> Option<Loc>
     }
 }
 
-/// The same of a term.
+/// Returns the same of a term.
 fn written_at(term: &Term) -> Option<Loc>
     ensures { option_map (λ l. l.0) result ≡ spec.written_at (focus (tree_of term.now)) }
 {
@@ -95,7 +95,7 @@ fn written_at(term: &Term) -> Option<Loc>
     }
 }
 
-/// Adds the line before the rows of an entry.
+/// Appends the line before the rows of an entry.
 pub(crate) fn append_entry_heading(
     page: &mut Page,
     number: u64,
@@ -105,12 +105,12 @@ pub(crate) fn append_entry_heading(
 {
     page.add(b"entry ")?;
     page.add_number(number)?;
-    page.add(b", fragment ")?;
+    page.add(b", task ")?;
     page.add_number(member)?;
     page.add(b"\n")
 }
 
-/// Adds the row of a label that led to this state, where it changed a location or started a member with this number.
+/// Appends the row of a label that led to this state, with the location that it changed or the member that it started.
 pub(crate) fn append_row(
     alloc: Global,
     page: &mut Page,
@@ -131,7 +131,7 @@ pub(crate) fn append_row(
     page.add(b"\n")
 }
 
-/// Adds what a location holds, if one is told.
+/// Appends the value of a location, if one is given.
 fn append_stored(
     alloc: Global,
     page: &mut Page,
@@ -151,7 +151,7 @@ fn append_stored(
     page.add(&held)
 }
 
-/// The text of a value; nothing where there is none.
+/// Returns the text of a value; nothing if there is none.
 pub(crate) fn held_text(
     alloc: Global,
     names: &[Vec<u8>],
@@ -165,7 +165,7 @@ pub(crate) fn held_text(
     }
 }
 
-/// Adds which member a label starts, if it starts one.
+/// Appends which member a label starts, if it starts one.
 fn append_started(page: &mut Page, member: u64, label: Label) -> Result<(), NoMemory>
     ensures { OnOk result (page.new ≡ page.old ++ started_words member (spec.kind_of label)) }
 {

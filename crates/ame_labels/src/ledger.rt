@@ -1,4 +1,4 @@
-//! How many entries labels have.
+//! The number of entries that labels have.
 
 ghost use Rattle.std.specs.Prelude.{◌≡◌, OnOk, IfOk, length};
 ghost use Rattle.ame_weak.specs.Straight.{outset};
@@ -11,7 +11,7 @@ use ame_weak::Try;
 use std::alloc::Global;
 use std::collections::BTreeSet;
 
-/// How many entries the labels so far have, who is inside `unprotected`, and which member was active last.
+/// The number of entries that the labels so far have, the members inside `unprotected`, and the member that was active last.
 #[derive(Drop)]
 pub(crate) struct Ledger {
     pub(crate) count: u64,
@@ -20,7 +20,7 @@ pub(crate) struct Ledger {
 }
 
 impl Ledger {
-    /// Before the first label.
+    /// Begins before the first label.
     pub(crate) fn new(alloc: Global) -> Ledger
         ensures stands { IsLedgerAt outset result }
         ensures none { result.count ≡ 0 }
@@ -32,7 +32,7 @@ impl Ledger {
         }
     }
 
-    /// One more entry.
+    /// Counts one more entry.
     fn add(&mut self) -> Result<(), NoMemory>
         ensures { OnOk result (CountsMore 1 self.old self.new) }
     {
@@ -40,7 +40,7 @@ impl Ledger {
         Ok(())
     }
 
-    /// Counts the notes of the tries that were made after n labels; tells the later tries.
+    /// Counts the notes of the tries that were made after n labels, and returns the later tries.
     pub(crate) fn pass_tries<'a>(&mut self, tries: &'a [Try], n: u64) -> Result<&'a [Try], NoMemory>
         ensures notes { OnOk result (CountsMore (length (noted_tries n tries.now)) self.old self.new) }
         ensures later { IfOk result (λ rest. rest.now ≡ tries_behind n tries.now) }
@@ -73,14 +73,14 @@ impl Ledger {
         }
     }
 
-    /// A member becomes active.
+    /// Notes that a member becomes active.
     fn begin(&mut self, number: u64)
         ensures { LedgerPasses (Label.Activate number) self.old self.new }
     {
         self.number = number;
     }
 
-    /// The fragment ends.
+    /// Notes that the fragment ends.
     fn end(&mut self) -> Result<(), NoMemory>
         ensures { OnOk result (LedgerPasses Label.End self.old self.new) }
     {
@@ -88,7 +88,7 @@ impl Ledger {
         Ok(())
     }
 
-    /// The fragment leaves.
+    /// Notes that the fragment leaves for unprotected code.
     fn leave(&mut self) -> Result<(), NoMemory>
         ensures { OnOk result (LedgerPasses Label.Leave self.old self.new) }
     {
@@ -97,7 +97,7 @@ impl Ledger {
         Ok(())
     }
 
-    /// A member makes a step under `unprotected`.
+    /// Notes that a member makes a step under `unprotected`.
     fn free(&mut self, number: u64, _kind: StepKind) -> Result<(), NoMemory>
         ensures { OnOk result (LedgerPasses (Label.Free number _kind) self.old self.new) }
     {
@@ -106,7 +106,7 @@ impl Ledger {
         Ok(())
     }
 
-    /// A member closes.
+    /// Notes that a member closes.
     fn close(&mut self, number: u64) -> Result<(), NoMemory>
         ensures { OnOk result (LedgerPasses (Label.Close number) self.old self.new) }
     {
@@ -116,7 +116,7 @@ impl Ledger {
         Ok(())
     }
 
-    /// A member that isn't inside comes in.
+    /// Adds a member that isn't inside.
     fn arrive(&mut self, number: u64) -> Result<(), NoMemory>
         ensures { OnOk result (ComesIn number self.old self.new) }
     {

@@ -10,7 +10,7 @@ use ame_print::print_term;
 use ame_term::{Name, NoMemory, Split, Term, copy_term, refill, split};
 use std::alloc::Global;
 
-/// The text of a term with its redex between marks. The names are as before.
+/// Returns the text of a term with its redex between marks. The names are as before.
 #[tactic(auto, unfolding(crate::specs::Marked::marked_text))]
 pub(crate) fn marked_text(
     alloc: Global,
@@ -34,7 +34,7 @@ pub(crate) fn marked_text(
     }
 }
 
-/// The number of the next name.
+/// Returns the number of the next name.
 fn next_name(names: &[Vec<u8>]) -> Result<Name, NoMemory>
     ensures { IfOk result (λ name. name.0 ≡ length names.now) }
 {
@@ -44,7 +44,7 @@ fn next_name(names: &[Vec<u8>]) -> Result<Name, NoMemory>
     }
 }
 
-/// The text of a redex between marks.
+/// Returns the text of a redex between marks.
 fn marked_redex(alloc: Global, names: &[Vec<u8>], redex: &Term) -> Result<Vec<u8>, NoMemory>
     ensures { IfOk result (λ text. text.items ≡ spec.marked_redex (spelling_of names.now) (tree_of redex.now)) }
 {

@@ -9,7 +9,7 @@ use ame_term::{Label, NoMemory};
 use ame_weak::Try;
 use std::alloc::Global;
 
-/// Of each label of a weak run the number of its entry in the journal that straightens the run, counted from 1. Costs the logarithm of the
+/// Returns for each label of a weak run the number of its entry in the straightened journal, counted from 1. Costs the logarithm of the
 /// members inside for each label.
 pub fn entry_numbers(alloc: Global, labels: &[Label], tries: &[Try]) -> Result<Vec<u64>, NoMemory>
     ensures { IfOk result (λ numbers. numbers.items ≡ spec.entry_numbers labels.now tries.now) }
@@ -18,7 +18,7 @@ pub fn entry_numbers(alloc: Global, labels: &[Label], tries: &[Try]) -> Result<V
     numbers_with(alloc, labels, &counts)
 }
 
-/// How many entries the journal has up to each label.
+/// Returns how many entries the journal has up to each label.
 fn counts_of(alloc: Global, labels: &[Label], tries: &[Try]) -> Result<Vec<u64>, NoMemory>
     ensures { IfOk result (λ counts. counts.items ≡ spec.counts_from 0 0 tries.now outset labels.now) }
 {
@@ -33,7 +33,7 @@ fn counts_of(alloc: Global, labels: &[Label], tries: &[Try]) -> Result<Vec<u64>,
     Ok(counts)
 }
 
-/// The entry of each label, where the counts up to each are told.
+/// Returns the entry of each label, given the counts up to each.
 fn numbers_with(alloc: Global, labels: &[Label], counts: &[u64]) -> Result<Vec<u64>, NoMemory>
     requires { length counts.now ≡ length labels.now }
     ensures { IfOk result (λ numbers. numbers.items ≡ spec.numbers_with labels.now counts.now) }
@@ -51,7 +51,7 @@ fn numbers_with(alloc: Global, labels: &[Label], counts: &[u64]) -> Result<Vec<u
     Ok(numbers)
 }
 
-/// The entry of the fragment that is active at a label.
+/// Returns the entry of the fragment that is active at a label.
 fn active_entry_at(label: Label, count: u64, later: u64) -> u64
     ensures { result ≡ spec.active_entry_at label count later }
 {
@@ -61,7 +61,7 @@ fn active_entry_at(label: Label, count: u64, later: u64) -> u64
     }
 }
 
-/// The entry of a label.
+/// Returns the entry of a label.
 fn entry_of_label(label: Label, count: u64, active: u64) -> u64
     ensures { result ≡ spec.entry_of_label label count active }
 {

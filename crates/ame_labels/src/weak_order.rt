@@ -24,13 +24,13 @@ pub(crate) struct Order {
     /// The entry of each label.
     pub(crate) numbers: Vec<u64>,
     pub(crate) page: Page,
-    /// How many entries the labels and tries so far have.
+    /// The number of entries that the labels and tries so far have.
     pub(crate) entries: u64,
 }
 
-/// Labels from the beginning of a weak run of a program, a row each: the entry into which it goes by these numbers, its member, and what it
-/// does, with the location that it touches and what that holds then. Tries stand between them, each behind as many labels as it was made
-/// after; the list has them in that order. None where the labels aren't legal. Costs what the labels' steps cost.
+/// Returns the labels of a weak run of a program, a row each: the label's entry by these numbers, its member, its reduction, and the location that
+/// it touches with its value at that time. A try stands after the labels after which it was made; the list has the tries in that order.
+/// None if the labels aren't legal. Costs as much as the labels' steps.
 pub fn weak_order_of(
     alloc: Global,
     program: Program,
@@ -56,12 +56,12 @@ pub fn weak_order_of(
     }
 }
 
-/// A page with the line that names the columns.
+/// Returns a page with the line that names the columns.
 fn heading(alloc: Global) -> Result<Page, NoMemory>
     ensures { IfOk result (λ page. page ≡ weak_heading) }
 {
     let mut page = Page::new(alloc);
-    page.add(b"label  entry  fragment   protected code        unprotected code\n")?;
+    page.add(b"label  entry      task   protected code        unprotected code\n")?;
     Ok(page)
 }
 
@@ -82,7 +82,7 @@ impl Order {
         Ok(())
     }
 
-    /// Adds the rows of the tries that were made after n labels; tells the later tries.
+    /// Appends the rows of the tries that were made after n labels, and returns the later tries.
     #[tactic(auto, using(crate::proofs::OrderLemmas::no_tries))]
     fn tell_tries<'a>(&mut self, tries: &'a [Try], n: u64) -> Result<&'a [Try], NoMemory>
         ensures told { IfOk result (λ rest. TellsTries n tries.now rest.now self.old self.new) }
@@ -120,7 +120,7 @@ impl Order {
     }
 }
 
-/// The entry of the label with this index; 0 where there are fewer.
+/// Returns the entry of the label with this index; 0 if there are fewer labels.
 fn number_at(numbers: &[u64], index: usize) -> u64
     ensures { result ≡ get_or numbers.now index 0 }
 {
@@ -130,7 +130,7 @@ fn number_at(numbers: &[u64], index: usize) -> u64
     }
 }
 
-/// How many entries there are behind a label, which goes into this entry.
+/// Returns how many entries there are after a label that goes into this entry.
 fn entries_after(label: Label, entry: u64, entries: u64) -> u64
     ensures { result ≡ spec.entries_after label entry entries }
 {

@@ -16,7 +16,7 @@ use ame_term::{Label, Loc, NoMemory, Split, StepKind, Term, Value, split};
 use ame_weak::{Try, WeakState};
 use std::alloc::Global;
 
-/// Adds what is known of a label before it is made; tells the location that it touches.
+/// Appends what is known of a label before it is made, and returns the location that it touches.
 #[tactic(auto, unfolding(crate::specs::WeakOrder::before_label))]
 pub(crate) fn append_before(
     page: &mut Page,
@@ -35,7 +35,7 @@ pub(crate) fn append_before(
     Ok(touched_at(term, label))
 }
 
-/// Adds what the location holds that a label touched, where this is the state behind the label.
+/// Appends the value of the location that a label touched, in the state after the label.
 #[tactic(auto, unfolding(crate::specs::WeakOrder::behind_label))]
 pub(crate) fn append_behind(
     alloc: Global,
@@ -51,7 +51,7 @@ pub(crate) fn append_behind(
     page.add(b"\n")
 }
 
-/// The location that a label makes, reads or writes.
+/// Returns the location that a label makes, reads or writes.
 fn touched_at(term: Option<&Term>, label: Label) -> Option<Loc>
     ensures { option_map (λ l. l.0) result ≡ spec.touched_at (stepped.kind_of label) (option_map (λ t. tree_of t.now) term.entry) }
 {
@@ -61,7 +61,7 @@ fn touched_at(term: Option<&Term>, label: Label) -> Option<Loc>
     }
 }
 
-/// The location from which the redex of a term reads.
+/// Returns the location from which the redex of a term reads.
 fn read_location(term: Option<&Term>) -> Option<Loc>
     ensures { option_map (λ l. l.0) result ≡ spec.read_location (option_map (λ t. tree_of t.now) term.entry) }
 {
@@ -71,7 +71,7 @@ fn read_location(term: Option<&Term>) -> Option<Loc>
     }
 }
 
-/// The same of a term.
+/// Returns the same of a term.
 fn read_at(term: &Term) -> Option<Loc>
     ensures { option_map (λ l. l.0) result ≡ spec.read_at (focus (tree_of term.now)) }
 {
@@ -88,7 +88,7 @@ fn read_at(term: &Term) -> Option<Loc>
     }
 }
 
-/// The columns of a label, and what it does.
+/// Appends the columns of a label, and its reduction.
 #[tactic(auto, unfolding(crate::specs::WeakOrder::columns))]
 fn append_columns(
     row: &mut Page,
@@ -106,7 +106,7 @@ fn append_columns(
     row.add(label_deed(label))
 }
 
-/// The member whose label it is.
+/// Returns the member whose label it is.
 fn label_member(active: Option<u64>, label: Label) -> u64
     ensures { result ≡ spec.label_member active label }
 {
@@ -116,7 +116,7 @@ fn label_member(active: Option<u64>, label: Label) -> u64
     }
 }
 
-/// How far the column of a label is to the right.
+/// Returns the indent of a label's column.
 fn lane_width(label: Label) -> usize
     ensures { result ≡ spec.lane_width label }
 {
@@ -126,7 +126,7 @@ fn lane_width(label: Label) -> usize
     }
 }
 
-/// What a label does.
+/// Returns what a label does.
 fn label_deed(label: Label) -> &'static [u8]
     ensures { result.now ≡ spec.label_deed label }
 {
@@ -139,7 +139,7 @@ fn label_deed(label: Label) -> &'static [u8]
     }
 }
 
-/// What a reduction does, with spaces where more is told of it.
+/// Returns a reduction in words, padded if more follows.
 fn step_deed(kind: StepKind) -> &'static [u8]
     ensures { result.now ≡ spec.step_deed kind }
 {
@@ -156,7 +156,7 @@ fn step_deed(kind: StepKind) -> &'static [u8]
     }
 }
 
-/// Adds what a reduction of a term tells others, and what it is answered.
+/// Appends what a term's reduction sends to others, and its answer.
 fn append_said(row: &mut Page, term: Option<&Term>, label: Label) -> Result<(), NoMemory>
     ensures { OnOk result (row.new ≡ row.old ++ spec.said_words (stepped.kind_of label) (option_map (λ t. tree_of t.now) term.entry)) }
 {
@@ -170,7 +170,7 @@ fn append_said(row: &mut Page, term: Option<&Term>, label: Label) -> Result<(), 
     }
 }
 
-/// Adds what the redex of a term prints or calls.
+/// Appends what the redex of a term prints or calls.
 fn append_said_by(row: &mut Page, term: Option<&Term>) -> Result<(), NoMemory>
     ensures { OnOk result (row.new ≡ row.old ++ spec.said_by (option_map (λ t. tree_of t.now) term.entry)) }
 {
@@ -180,7 +180,7 @@ fn append_said_by(row: &mut Page, term: Option<&Term>) -> Result<(), NoMemory>
     }
 }
 
-/// The same of a term.
+/// Appends the same for a term.
 fn append_said_at(row: &mut Page, term: &Term) -> Result<(), NoMemory>
     ensures { OnOk result (row.new ≡ row.old ++ spec.said_at (focus (tree_of term.now))) }
 {
@@ -202,7 +202,7 @@ fn append_said_at(row: &mut Page, term: &Term) -> Result<(), NoMemory>
     }
 }
 
-/// Adds an integer, where a term is one.
+/// Appends an integer, if a term is one.
 fn append_integer(row: &mut Page, part: &Term) -> Result<(), NoMemory>
     ensures { OnOk result (row.new ≡ row.old ++ spec.integer_words (tree_of part.now)) }
 {
@@ -212,7 +212,7 @@ fn append_integer(row: &mut Page, part: &Term) -> Result<(), NoMemory>
     }
 }
 
-/// Adds what a location holds, if one is told.
+/// Appends the value of a location, if one is given.
 fn append_touched(
     alloc: Global,
     row: &mut Page,
@@ -232,7 +232,7 @@ fn append_touched(
     row.add(&held)
 }
 
-/// Adds the row of a try, the note of which is this entry.
+/// Appends the row of a try whose note is this entry.
 #[tactic(auto, unfolding(crate::specs::WeakOrder::taken_back_row))]
 pub(crate) fn append_try(page: &mut Page, entry: u64, t: &Try) -> Result<(), NoMemory>
     ensures { OnOk result (page.new ≡ page.old ++ spec.taken_back_row entry t.now) }

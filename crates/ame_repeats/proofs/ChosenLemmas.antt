@@ -18,7 +18,7 @@ use Rattle.ame_sim.specs.Questions.{questions_along, seats_of, waits_after}
 use Rattle.ame_sim.specs.Strategy.{PicksSeats}
 use Rattle.ame_sim.specs.Waits.{may_be_picked}
 use Rattle.ame_repeats.specs.Answers.{AreAnsweredAlike, is_fault}
-use Rattle.ame_repeats.specs.Played.{ArePicksOf, ArePrepared, AreOfOneProgram, AreOfTheSameSeats, EndsAlike, IsUnfailed}
+use Rattle.ame_repeats.specs.Played.{ArePicksOf, AreOfOneProgram, AreOfTheSameSeats, EndsAlike, IsUnfailed}
 use Rattle.ame_repeats.proofs.PlayLemmas.{pick-again, fine-first, mid-alike, both-run, run-again}
 
 -- A strategy that answers one question after the other.
@@ -67,27 +67,26 @@ module _ {S : Type 0} (run : S → List (List ℕ) → List ℕ) (asks : Asks ru
 
     pub chosen-seats : (x : S) (waits : List Bool) (after next-after : List (List ℕ) → List ℕ) (mades others : List Made) (first last other end : ShellView C V M)
         (plays : Plays meaning mades first last) (again : Plays meaning others other end)
-        → state_of meaning first.core ≡ state_of meaning other.core → ArePrepared meaning mades first last plays → ArePrepared meaning others other end again
-        → IsSome last.core.stop → IsSome end.core.stop → is_fault last.core.stop ≡ false → is_fault end.core.stop ≡ false → AreAnsweredAlike last.core.entries end.core.entries
+        → state_of meaning first.core ≡ state_of meaning other.core → IsSome last.core.stop → IsSome end.core.stop → is_fault last.core.stop ≡ false → is_fault end.core.stop ≡ false → AreAnsweredAlike last.core.entries end.core.entries
         → PicksSeats (run x) (questions_along waits (picks_of mades)) (seats_of (picks_of mades)) after
         → PicksSeats (run x) (questions_along waits (picks_of others)) (seats_of (picks_of others)) next-after → AreOfTheSameSeats mades others
-    chosen-seats x waits after next-after [] [] first last other end plays again same ready prepared ends stops fine well alike h i = refl
-    chosen-seats x waits after next-after [] (o ∷ others) first last other end plays again same ready prepared ends stops fine well alike h i =
+    chosen-seats x waits after next-after [] [] first last other end plays again same ends stops fine well alike h i = refl
+    chosen-seats x waits after next-after [] (o ∷ others) first last other end plays again same ends stops fine well alike h i =
         absurd (some-apart last.core.stop (ap (λ (z : ShellView C V M). z.core.stop) plays ∙ stop-one first other same ∙ again.1) ends)
-    chosen-seats x waits after next-after (m ∷ mades) [] first last other end plays again same ready prepared ends stops fine well alike h i =
+    chosen-seats x waits after next-after (m ∷ mades) [] first last other end plays again same ends stops fine well alike h i =
         absurd (some-apart end.core.stop (ap (λ (z : ShellView C V M). z.core.stop) again ∙ sym (stop-one first other same) ∙ plays.1) stops)
-    chosen-seats x waits after next-after (m ∷ mades) (o ∷ others) first last other end plays again same ready prepared ends stops fine well alike h i =
+    chosen-seats x waits after next-after (m ∷ mades) (o ∷ others) first last other end plays again same ends stops fine well alike h i =
         let may = may_be_picked waits in
         let here = first-picked x may (questions_along (waits_after waits (picked_by m)) (picks_of mades)) m.seat (seats_of (picks_of mades)) after h in
         let there = first-picked x may (questions_along (waits_after waits (picked_by o)) (picks_of others)) o.seat (seats_of (picks_of others)) next-after i in
         let seat : o.seat ≡ m.seat = there ∙ sym here in
-        let one = pick-again meaning m o first plays.0 other again.0 same plays.1 plays.2 again.2 seat ready.0 prepared.0
+        let one = pick-again meaning m o first plays.0 other again.0 same plays.1 plays.2 again.2 seat
         (fine-first meaning mades plays.0 last plays.3 fine) (fine-first meaning others again.0 end again.3 well)
         (mid-alike meaning mades others plays.0 last again.0 end plays.3 again.3 fine well alike) in
         let tail = others-picked x may (questions_along (waits_after waits (picked_by m)) (picks_of mades)) m.seat (seats_of (picks_of mades)) after h in
         let tail' = others-picked x may (questions_along (waits_after waits (picked_by o)) (picks_of others)) o.seat (seats_of (picks_of others)) next-after i in
         let moved = subst (λ (z : Made). PicksSeats (run (asks.later x)) (questions_along (waits_after waits (picked_by z)) (picks_of others)) (seats_of (picks_of others)) next-after) one.same tail' in
-        let rest = chosen-seats (asks.later x) (waits_after waits (picked_by m)) after next-after mades others plays.0 last again.0 end plays.3 again.3 one.leads ready.1 prepared.1
+        let rest = chosen-seats (asks.later x) (waits_after waits (picked_by m)) after next-after mades others plays.0 last again.0 end plays.3 again.3 one.leads
         ends stops fine well alike tail moved in
         ap (λ n. n ∷ seats_of (picks_of others)) seat ∙ ap (λ ns. m.seat ∷ ns) rest
 
@@ -102,4 +101,4 @@ module _ {S : Type 0} (run : S → List (List ℕ) → List ℕ) (asks : Asks ru
         subst (λ (l : Limits). PicksSeats (run s) (questions_along (replicate l.seats false) (picks_of others)) (seats_of (picks_of others)) i.later) one.limits i.answers in
         run-again meaning opening other mades others end last x y one
         (chosen-seats meaning s (replicate opening.limits.seats false) h.later i.later mades others p.first p.playing.last q.first q.playing.last p.playing.plays q.playing.plays
-        both.starts x.prepared y.prepared both.stopped both.halted both.fine both.well both.ends h.answers moved) alike
+        both.starts both.stopped both.halted both.fine both.well both.ends h.answers moved) alike

@@ -22,7 +22,7 @@ use Rattle.ame_rows.specs.MemoryView.{row_at}
 use Rattle.ame_protocol.specs.declared.types.Attempt.{Attempt}
 use Rattle.ame_protocol.specs.Engine.Parts.{Parts, term_at}
 use Rattle.ame_engine.specs.AtWork.{IsOnSeat}
-use Rattle.ame_repeats.specs.Ready.{IsPreparedStage, IsPreparedHand}
+use Rattle.ame_sim.specs.Prepared.{IsPreparedStage, IsPreparedHand}
 use Rattle.ame_repeats.proofs.VisitsLemmas.{false-apart}
 
 -- A step without an input

@@ -5,5 +5,4 @@ pub mod PairLemmas
 pub mod HandLemmas
 pub mod StepLemmas
 pub mod PlayLemmas
-pub mod PrepareLemmas
 pub mod ChosenLemmas

@@ -29,10 +29,11 @@ use Rattle.ame_sim.specs.declared.made.Made.{Made}
 use Rattle.ame_sim.specs.Crew.{lacking}
 use Rattle.ame_sim.specs.Places.{place_told, place_wanted}
 use Rattle.ame_sim.specs.Played.{HasPlayed, Plays}
+use Rattle.ame_sim.specs.Prepared.{IsPreparedHand}
 use Rattle.ame_repeats.specs.Answers.{answer_of, one_answer, answers_in, AreAnsweredAlike, is_fault}
-use Rattle.ame_repeats.specs.Played.{ArePrepared, IsUnfailed, AreOfOneProgram, AreOfTheSameSeats, EndsAlike}
-use Rattle.ame_repeats.specs.Ready.{IsPreparedHand}
+use Rattle.ame_repeats.specs.Played.{IsUnfailed, AreOfOneProgram, AreOfTheSameSeats, EndsAlike}
 use Rattle.ame_repeats.proofs.HandLemmas.{hand-one}
+use Rattle.ame_repeats.proofs.ClassLemmas.{is_lost}
 use Rattle.ame_repeats.proofs.StepLemmas.{answer_made, turn-one, core-kept, kept-outcome}
 
 -- Answers in entries
@@ -115,11 +116,21 @@ module _ {C V M : Type 0} (meaning : Meaning C V M) where
       sym (length-map other.memory.cells (shown_cell (meaning.value_of other.code))) ∙ ap (λ (x : State). length x.parts.memory.cells) (sym same)
       ∙ length-map old.memory.cells (shown_cell (meaning.value_of old.code))
 
+  -- a machine was prepared, as memory didn't run out
+  made-prepared : (made : Made) (old new : ShellView C V M) → old.core.stop ≡ None → (x : HasPlayed meaning made old new) → is_fault new.core.stop ≡ false
+      → IsPreparedHand (parts_of meaning old.core) made.seat x.hand
+  made-prepared made old new going x fine = elim (x.prepared going) [
+    | inl lacked ↦ absurd (let clash : true ≡ false = sym (ap is_lost lacked) ∙ kept-outcome meaning made.seat x.hand old new made.outcome x.turned going fine in cc)
+    | inr prepared ↦ prepared
+  ]
+
   pub pick-again : (made again : Made) (old new other next : ShellView C V M) (same : state_of meaning old.core ≡ state_of meaning other.core) (going : old.core.stop ≡ None)
-      (x : HasPlayed meaning made old new) (y : HasPlayed meaning again other next) → again.seat ≡ made.seat → IsPreparedHand (parts_of meaning old.core) made.seat x.hand
-      → IsPreparedHand (parts_of meaning other.core) again.seat y.hand → is_fault new.core.stop ≡ false → is_fault next.core.stop ≡ false
+      (x : HasPlayed meaning made old new) (y : HasPlayed meaning again other next) → again.seat ≡ made.seat → is_fault new.core.stop ≡ false → is_fault next.core.stop ≡ false
       → AreAnsweredAlike new.core.entries next.core.entries → IsOnePick made again new next
-  pick-again made again old new other next same going x y seat ready prepared fine well alike =
+  pick-again made again old new other next same going x y seat fine well alike =
+      let there : other.core.stop ≡ None = ap (λ (z : State). z.stop) (sym same) ∙ going in
+      let ready = made-prepared made old new going x fine in
+      let prepared = made-prepared again other next there y well in
       let moved : IsPreparedHand (parts_of meaning old.core) made.seat y.hand =
       subst (λ (z : State). IsPreparedHand z.parts made.seat y.hand) (sym same) (subst (λ (z : ℕ). IsPreparedHand (parts_of meaning other.core) z y.hand) seat prepared) in
       let hands : y.hand ≡ x.hand = hand-one (parts_of meaning old.core) made.seat y.hand x.hand moved ready in
@@ -127,7 +138,6 @@ module _ {C V M : Type 0} (meaning : Meaning C V M) where
       subst (λ (h : Option MachineView). HasTurned meaning made.seat h other next again.outcome) hands
       (subst (λ (z : ℕ). HasTurned meaning z y.hand other next again.outcome) seat y.turned) in
       let t = x.turned in
-      let there : other.core.stop ≡ None = ap (λ (z : State). z.stop) (sym same) ∙ going in
       let kept = core-kept meaning made.seat x.hand old new made.outcome t going fine in
       let kept' = core-kept meaning made.seat x.hand other next again.outcome turned there well in
       let both : AreAnsweredAlike t.core.entries turned.core.entries = record {
@@ -188,20 +198,19 @@ module _ {C V M : Type 0} (meaning : Meaning C V M) where
     pub leads : state_of meaning last.core ≡ state_of meaning end.core
 
   pub plays-again : (mades others : List Made) (first last other end : ShellView C V M) (plays : Plays meaning mades first last) (again : Plays meaning others other end)
-      → state_of meaning first.core ≡ state_of meaning other.core → ArePrepared meaning mades first last plays → ArePrepared meaning others other end again
-      → AreOfTheSameSeats mades others → is_fault last.core.stop ≡ false → is_fault end.core.stop ≡ false → AreAnsweredAlike last.core.entries end.core.entries
+      → state_of meaning first.core ≡ state_of meaning other.core → AreOfTheSameSeats mades others → is_fault last.core.stop ≡ false → is_fault end.core.stop ≡ false → AreAnsweredAlike last.core.entries end.core.entries
       → ArePicksOnce mades others last end
-  plays-again [] [] first last other end plays again same ready prepared seats fine well alike =
+  plays-again [] [] first last other end plays again same seats fine well alike =
       record { same = refl; leads = ap (λ (x : ShellView C V M). state_of meaning x.core) plays ∙ same ∙ sym (ap (λ (x : ShellView C V M). state_of meaning x.core) again) }
-  plays-again [] (o ∷ others) first last other end plays again same ready prepared seats fine well alike = cc
-  plays-again (m ∷ mades) [] first last other end plays again same ready prepared seats fine well alike = cc
-  plays-again (m ∷ mades) (o ∷ others) first last other end plays again same ready prepared seats fine well alike =
+  plays-again [] (o ∷ others) first last other end plays again same seats fine well alike = cc
+  plays-again (m ∷ mades) [] first last other end plays again same seats fine well alike = cc
+  plays-again (m ∷ mades) (o ∷ others) first last other end plays again same seats fine well alike =
       let seat : o.seat ≡ m.seat = cc in
       let rest : AreOfTheSameSeats mades others = cc in
       let mids = mid-alike mades others plays.0 last again.0 end plays.3 again.3 fine well alike in
-      let one = pick-again m o first plays.0 other again.0 same plays.1 plays.2 again.2 seat ready.0 prepared.0 (fine-first mades plays.0 last plays.3 fine)
+      let one = pick-again m o first plays.0 other again.0 same plays.1 plays.2 again.2 seat (fine-first mades plays.0 last plays.3 fine)
       (fine-first others again.0 end again.3 well) mids in
-      let others-one = plays-again mades others plays.0 last again.0 end plays.3 again.3 one.leads ready.1 prepared.1 rest fine well alike in
+      let others-one = plays-again mades others plays.0 last again.0 end plays.3 again.3 one.leads rest fine well alike in
       record { same = ap (λ (x : Made). x ∷ others) one.same ∙ ap (λ (xs : List Made). m ∷ xs) others-one.same; leads = others-one.leads }
 
   -- Whole runs
@@ -251,7 +260,7 @@ module _ {C V M : Type 0} (meaning : Meaning C V M) where
         let p = x.played in
         let q = y.played in
         let both = both-run alike in
-        let all = plays-again mades others p.first p.playing.last q.first q.playing.last p.playing.plays q.playing.plays both.starts x.prepared y.prepared seats both.fine both.well
+        let all = plays-again mades others p.first p.playing.last q.first q.playing.last p.playing.plays q.playing.plays both.starts seats both.fine both.well
         both.ends in
         let states : state_of meaning q.now.core ≡ state_of meaning p.now.core =
         ap (λ (z : ShellView C V M). state_of meaning z.core) there ∙ sym all.leads ∙ sym (ap (λ (z : ShellView C V M). state_of meaning z.core) here) in (

@@ -1,8 +1,7 @@
--- Picks whose machines were prepared, and runs that are made again.
-use Rattle.std.specs.Prelude.{◌≡◌, ℕ, false, List, [], ◌∷◌, None}
+-- Runs that are made again.
+use Rattle.std.specs.Prelude.{◌≡◌, ℕ, false, List, None}
 use Rattle.ame_machine.specs.Meaning.{Meaning}
 use Rattle.ame_engine.specs.Ending.{End}
-use Rattle.ame_engine.specs.Seen.{parts_of}
 use Rattle.ame_shell.specs.Shell.{Opening, ShellView}
 use Rattle.ame_sim.specs.declared.made.Made.{Made}
 use Rattle.ame_sim.specs.Picks.{picks_of}
@@ -11,31 +10,22 @@ use Rattle.ame_sim.specs.Questions.{questions, seats_of}
 use Rattle.ame_sim.specs.Strategy.{PicksSeats}
 use Rattle.ame_sim.specs.Run.{IsPlayed}
 use Rattle.ame_repeats.specs.Answers.{is_fault}
-use Rattle.ame_repeats.specs.Ready.{IsPreparedHand}
 
 module _ {C V M : Type 0} (meaning : Meaning C V M) where
-  -- The seat of each pick had its machine prepared when it was picked.
-  abbrev pub ArePrepared : (mades : List Made) (old new : ShellView C V M) → Plays meaning mades old new → Type 0
-  ArePrepared [] old new plays = Unit {0}
-  ArePrepared (made ∷ mades) old new plays = IsPreparedHand (parts_of meaning old.core) made.seat plays.2.hand × ArePrepared mades plays.0 new plays.3
-
-  -- A pick with a prepared machine, while no stop is kept, and that no fault from outside stopped.
+  -- A pick while no stop is kept, and that no fault from outside stopped.
   pub record IsUnfailedPick (made : Made) (old new : ShellView C V M) : Type 0 where
     pub going : old.core.stop ≡ None
     pub played : HasPlayed meaning made old new
-    pub prepared : IsPreparedHand (parts_of meaning old.core) made.seat played.hand
     pub fine : is_fault new.core.stop ≡ false
 
   -- Picks of one shell, up to a shell that no fault from outside stopped.
   pub record AreUnfailed (mades : List Made) (first last : ShellView C V M) : Type 0 where
     pub plays : Plays meaning mades first last
-    pub prepared : ArePrepared mades first last plays
     pub fine : is_fault last.core.stop ≡ false
 
   -- A run by picks to its end, which no fault from outside stopped.
   pub record IsUnfailed (opening : Opening C) (mades : List Made) (end : End V) : Type 0 where
     pub played : IsPlayed meaning opening mades end
-    pub prepared : ArePrepared mades played.first played.playing.last played.playing.plays
     pub fine : is_fault end.stop ≡ false
 
   -- Two openings are of one program with its signature, and have the same limits.

@@ -4,6 +4,5 @@
 mod repeats;
 
 pub use repeats::{
-    chosen_runs_repeat, fed_machines_stay_low, machines_are_prepared, picks_repeat,
-    prepared_machines_are_one, replays_repeat, turns_repeat,
+    chosen_runs_repeat, picks_repeat, prepared_machines_are_one, replays_repeat, turns_repeat,
 };

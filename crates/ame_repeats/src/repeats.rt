@@ -1,23 +1,16 @@
 //! Theorems on runs by picks that are made again.
 
-ghost use Rattle.std.specs.Prelude.{◌≡◌, ◌≢◌, ◌++◌, ℕ, List, [], ◌∷◌, Option, Some};
-ghost use Rattle.ame_term.specs.Tree.{Tree, Val};
-ghost use Rattle.ame_machine.specs.MachineView.{MachineView, OnRun};
-ghost use Rattle.ame_machine.specs.Move.{fed_stage};
-ghost use Rattle.ame_machine.specs.Need.{Need, need_of};
+ghost use Rattle.std.specs.Prelude.{◌≡◌, ℕ, List, Option};
+ghost use Rattle.ame_machine.specs.MachineView.{MachineView};
 ghost use Rattle.ame_protocol.specs.Engine.Parts.{Parts};
 ghost use Rattle.ame_engine.specs.Ending.{End};
 ghost use Rattle.ame_engine.specs.Makes.{state_of};
-ghost use Rattle.ame_engine.specs.Core.{Core};
-ghost use Rattle.ame_engine.specs.Seen.{parts_of};
-ghost use Rattle.ame_shell.specs.Ready.{HasAdvanced, IsReady};
 ghost use Rattle.ame_shell.specs.Shell.{Opening, ShellView};
-ghost use Rattle.ame_shell.specs.Work.{IsAtWork};
 ghost use Rattle.ame_sim.specs.declared.made.Made.{Made};
 ghost use Rattle.ame_sim.specs.Drawn.{drawn};
 ghost use Rattle.ame_sim.specs.Listed.{picked_as_listed};
+ghost use Rattle.ame_sim.specs.Prepared.{IsPreparedHand};
 ghost use Rattle.ame_repeats.specs.Answers.{AreAnsweredAlike};
-ghost use Rattle.ame_repeats.specs.Ready.{HasRunLow, IsPreparedHand, IsPreparedStage, RunsLow};
 ghost use Rattle.ame_repeats.specs.Played.{AreUnfailed, IsUnfailed, IsUnfailedPick, AreOfOneProgram, AreOfTheSameSeats, ArePicksOf, EndsAlike};
 
 use ame_machine::Runner;
@@ -25,22 +18,6 @@ use ame_machine::Runner;
 /// Says that the state determines a prepared machine: its place, its counts and its want.
 pub fn prepared_machines_are_one()
     ensures { (parts : Parts) (seat : ℕ) (hand other : Option MachineView) → IsPreparedHand parts seat hand → IsPreparedHand parts seat other → hand ≡ other }
-{}
-
-/// Says that preparing the machine of a seat (`prepare` of `ame_shell`) leaves it prepared, if it is ready then and its run was low so far.
-pub fn machines_are_prepared<M: Runner>()
-where
-    M::Code: Drop,
-    ensures { (core : Core M.Code M.Value M) (seat : ℕ) (old new : M) (at : IsAtWork M.meaning core seat old) → IsAtWork M.meaning core seat new
-        → HasAdvanced M.meaning.is_machine M.meaning.stage core.code core.limits.slice old new → IsReady core.limits.slice (M.meaning.stage core.code new)
-        → HasRunLow (parts_of M.meaning core) seat (M.meaning.stage core.code old) at.on.stands.attempt.tried.number
-        → IsPreparedStage (parts_of M.meaning core) seat (M.meaning.stage core.code new) }
-{}
-
-/// Says that a run that was low so far stays low by a step with one more input, unless the next value would be too high.
-pub fn fed_machines_stay_low()
-    ensures { (start : Tree) (inputs : List Val) (v : Val) (m n : MachineView) → OnRun start inputs m → need_of m ≢ Need.Tall → fed_stage v m ≡ Some n
-        → RunsLow start inputs m → RunsLow start (inputs ++ v ∷ []) n }
 {}
 
 /// Says that picks of one seat from one state are the same pick and lead to one state, if devices answer alike. The state is all that

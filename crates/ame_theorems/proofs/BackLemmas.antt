@@ -1,4 +1,4 @@
--- Where a run has no entry of a member, the member turns back seldom.
+-- A member turns back seldom in a run that adds no entry of it.
 use Rattle.std.proofs.Common.{◌≡◌, ◌≢◌, ℕ, zero, suc, ◌+◌, ◌<◌, ◌≤◌, ◌==◌, ◌⊎◌, inl, inr, Bool, true, false, cond, List, [], ◌∷◌, ◌++◌, set, All, Option, Some, None, refl, sym, ap, ◌∙◌, subst, arith}
 use Rattle.std.specs.Prelude.{count_by, IsSomeAnd, if◌then◌else◌}
 use Rattle.std.proofs.lemmas.Bool.Decides.{nat_tests}
@@ -69,7 +69,7 @@ all-right : {X : Type 0} (P : X → Type 0) (xs ys : List X) → All P (xs ++ ys
 all-right P [] ys all = all
 all-right P (x ∷ xs) ys all = all-right P xs ys (All-tail P x (xs ++ ys) all)
 
--- the numbers of seats, where at most one has one
+-- The sum over seats if at most one seat has a number.
 zero-below : (n : ℕ) (f : ℕ → ℕ) → ((k : ℕ) → k < n → f k ≡ 0) → over_seats n f ≡ 0
 zero-below zero f none = refl
 zero-below (suc n) f none = let a = none n (omega arith) in let b = zero-below n f (λ k lt. none k (omega arith)) in omega arith
@@ -98,7 +98,7 @@ one-of (suc n) f few same = by (zero-or-one (f n) (few n)) (one-of n f few same)
         inr (n, one, omega (arith, one, zero_rest))
 
 module _ (i : ℕ) where
-  -- one where a seat brings the member home that turned back
+  -- Returns one if a seat brings home the member that turned back.
   abbrev turning : Task → ℕ
   turning (Task.Undoing attempt Reason.RolledBack) = cond (attempt.tried.number == i) 1 0
   turning _ = 0
@@ -255,7 +255,7 @@ module _ (i : ℕ) where
         (all-woken-unrolled ls parts.pool)
         (newcomers-unrolled parts.next p.spawns (woken_for ls parts.pool) (woken-free parts.next ls parts.pool (free-next parts h.stands)))
 
-    -- an entry that is told is another member's
+    -- An entry that is added is another member's.
     other : (entry : Entry) → All (λ (x : Entry). x.number ≢ i) (entry ∷ []) → i ≡ entry.number → ⊥
     other entry none same = All-head (λ (x : Entry). x.number ≢ i) entry [] none (sym same)
 

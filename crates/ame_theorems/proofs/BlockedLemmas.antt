@@ -8,7 +8,7 @@ use Rattle.ame_term.specs.Signature.{Signature}
 use Rattle.ame_term.specs.State.{State}
 use Rattle.ame_term.specs.declared.semantics.StepKind.{StepKind}
 use Rattle.ame_journal.proofs.ReachedLemmas.{calm-replayed}
-use Rattle.ame_protocol.specs.declared.certificate.Certificate.{Certificate}
+use Rattle.ame_journal.specs.declared.certificate.Certificate.{Certificate}
 use Rattle.ame_protocol.specs.declared.stop.Stop.{Stop}
 use Rattle.ame_protocol.specs.declared.types.Limits.{Limits}
 use Rattle.ame_protocol.specs.Waits.Certificates.{IsCertificate}

@@ -1,5 +1,5 @@
--- The counters of a run tell its entries and its events by their kinds.
-use Rattle.std.proofs.Common.{◌≡◌, ℕ, ◌+◌, ◌∷◌, [], List, Bool, true, false, cond, ap, arith}
+-- The counters of a run count its entries and its events by their kinds.
+use Rattle.std.proofs.Common.{◌≡◌, ℕ, ◌+◌, ◌∷◌, [], List, Bool, true, false, cond, None, ap, arith}
 use Rattle.std.specs.Prelude.{count_by}
 use Rattle.std.proofs.lemmas.List.Sums.{sum_by-cons, sum_by-append}
 use Rattle.ame_journal.specs.declared.entry.Entry.{Entry}
@@ -10,6 +10,7 @@ use Rattle.ame_protocol.specs.Event.Counting.{one_undone, nothing_counted}
 use Rattle.ame_protocol.specs.Event.Event.{Event, Find, Reverse}
 use Rattle.ame_protocol.specs.Event.Runs.{Follows, entries_along, entries_told}
 use Rattle.ame_protocol.specs.Event.State.{State}
+use Rattle.ame_theorems.proofs.StoppedLemmas.{faults-kept}
 use Rattle.ame_theorems.specs.Kinds.{is_ran, is_free, is_stuck, is_tall, entries_of, is_fault, is_alloc, is_at_commit, is_at_block, is_at_tall, is_refused, CountsByKind}
 
 undone-frees : (stopped : Bool) (c : Counters) → (one_undone stopped c).frees ≡ c.frees + (0 + 0)
@@ -167,9 +168,15 @@ allocs-along (e ∷ es) s end run =
     omega (arith, rest, first, more)
 
 -- from where nothing is counted
-pub kinds-counted : (es : List Event) (s end : State) → Follows s es end → s.counters ≡ nothing_counted → CountsByKind es (entries_along es) end.counters
-kinds-counted es s end run none = record {
-  frees = let all = counts-along is_free is_fault (λ c. c.frees) one-freed es s end run in let zero = ap (λ (c : Counters). c.frees) none in omega (arith, all, zero);
+pub kinds-counted : (es : List Event) (s end : State) → Follows s es end → s.counters ≡ nothing_counted → s.stop ≡ None
+    → CountsByKind es (entries_along es) end.counters end.stop
+kinds-counted es s end run none going = record {
+  frees =
+      let all = counts-along is_free is_fault (λ c. c.frees) one-freed es s end run in
+      let zero = ap (λ (c : Counters). c.frees) none in
+      let faults = faults-kept es s end run going in
+      omega (arith, all, zero, faults);
+  faults = faults-kept es s end run going;
   commits =
       let all = counts-along is_ran (is_refused is_at_commit) (λ c. c.commits) one-committed es s end run in
       let zero = ap (λ (c : Counters). c.commits) none in

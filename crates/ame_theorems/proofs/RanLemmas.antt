@@ -1,5 +1,5 @@
--- What the events of a run that is over tell.
-use Rattle.std.proofs.Common.{◌≡◌, ◌≤◌, ◌∙◌, inl, inr, false, List, All, Some, None, sym, ap, subst}
+-- Consequences of the events of a run that is over.
+use Rattle.std.proofs.Common.{◌≡◌, ◌≤◌, ◌∙◌, inl, inr, false, List, All, Option, Some, None, sym, ap, subst}
 use Rattle.ame_term.specs.Tree.{Val, Tree}
 use Rattle.ame_term.specs.Signature.{Signature}
 use Rattle.ame_journal.specs.declared.entry.Entry.{Entry}
@@ -28,7 +28,7 @@ module _ (program : Tree) (signature : Signature) (limits : Limits) (base : List
   fresh s (inl starts) = (ap (λ (x : State). x.counters) starts.1, ap (λ (x : State). x.stop) starts.1)
   fresh s (inr goes) = (ap (λ (x : State). x.counters) goes.state, ap (λ (x : State). x.stop) goes.state)
 
-  -- it is sound, where the types accept the program and the base has no notes
+  -- It is sound if the types accept the program and the base has no notes.
   start-sound : (s : State) → IsAccepted signature program → 1 ≤ limits.slice → All (λ (e : Entry). is_note e.kind ≡ false) base
       → IsStart program signature limits base s → Sound s
   start-sound s accepted slice plain (inl starts) = subst Sound (sym starts.1) (sound-start program signature limits accepted slice)
@@ -37,11 +37,12 @@ module _ (program : Tree) (signature : Signature) (limits : Limits) (base : List
       (sound-opened program signature limits base goes.cells goes.pool goes.led goes.types goes.replayed goes.typed goes.has_cells goes.has_members goes.ready plain slice)
 
   module _ {V : Type 0} (value : V → Val) (end : End V) (ran : IsRanBy program signature limits base value end) where
-    pub ran-counted : CountsByKind ran.events end.entries end.counters
+    pub ran-counted : CountsByKind ran.events end.entries end.counters end.stop
     ran-counted =
-        subst (λ (c : Counters). CountsByKind ran.events end.entries c) ran.ends.counters
-        (subst (λ (entries : List Entry). CountsByKind ran.events entries ran.last.counters) ran.told
-        (kinds-counted ran.events ran.start ran.last ran.follows (fresh ran.start ran.starts).0))
+        subst (λ (stop : Option Stop). CountsByKind ran.events end.entries end.counters stop) ran.ends.stop
+        (subst (λ (c : Counters). CountsByKind ran.events end.entries c ran.last.stop) ran.ends.counters
+        (subst (λ (entries : List Entry). CountsByKind ran.events entries ran.last.counters ran.last.stop) ran.told
+        (kinds-counted ran.events ran.start ran.last ran.follows (fresh ran.start ran.starts).0 (fresh ran.start ran.starts).1)))
 
     pub ran-stopped : (why : Stop) → end.stop ≡ Some why → IsStoppedBy why ran.events
     ran-stopped why stop = stopped-by ran.events ran.start ran.last why ran.follows (fresh ran.start ran.starts).1 (ran.ends.stop ∙ stop)

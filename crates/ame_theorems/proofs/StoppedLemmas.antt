@@ -1,15 +1,19 @@
 -- The first stop decides how a run ends.
-use Rattle.std.proofs.Common.{◌≡◌, ◌∷◌, [], ◌⊎◌, inl, inr, List, true, false, All, Option, Some, None, refl, sym, ap, ◌∙◌}
-use Rattle.std.proofs.lemmas.List.Elements.{All-nil, All-cons}
+use Rattle.std.proofs.Common.{◌≡◌, ℕ, ◌+◌, ◌∷◌, [], ◌⊎◌, inl, inr, List, Bool, true, false, cond, All, Option, Some, None, refl, sym, ap, ◌∙◌, arith}
+use Rattle.std.specs.Prelude.{count_by}
+use Rattle.std.proofs.lemmas.List.Sums.{sum_by-cons}
+use Rattle.std.proofs.lemmas.List.Elements.{All-nil, All-cons, All-head, All-tail}
 use Rattle.ame_protocol.specs.declared.stop.Stop.{Stop}
 use Rattle.ame_protocol.specs.Event.After.{after, stop_after}
+use Rattle.ame_protocol.specs.Event.Causes.{only_seats_keep}
 use Rattle.ame_protocol.specs.Event.Event.{Event}
 use Rattle.ame_protocol.specs.Event.May.{May}
 use Rattle.ame_protocol.specs.Event.Runs.{Follows}
 use Rattle.ame_protocol.specs.Event.State.{State}
+use Rattle.ame_theorems.specs.Kinds.{is_fault, faults_at}
 use Rattle.ame_theorems.specs.Stopped.{is_undo, IsStoppedBy}
 
--- but for undos, events are only where no stop is kept
+-- Only undos happen once a stop is kept.
 goes : (e : Event) (s : State) → May e s → (is_undo e ≡ true) ⊎ (s.stop ≡ None)
 goes (Event.Begin seat number) s may = inr may.0.going
 goes (Event.Read seat l) s may = inr may.0.going
@@ -37,7 +41,7 @@ undo-keeps _ stop is = absurd (let clash : false ≡ true = is in cc)
 apart : {A : Type 0} (o : Option A) (x : A) → o ≡ None → o ≡ Some x → ⊥
 apart {A} o x none some = let clash : ◌≡◌ {A = Option A} None (Some x) = sym none ∙ some in cc
 
--- behind a kept stop
+-- Once a stop is kept, only undos follow, and the stop stays.
 behind : (es : List Event) (s end : State) (why : Stop) → Follows s es end → s.stop ≡ Some why → All (λ e. is_undo e ≡ true) es × (end.stop ≡ Some why)
 behind [] s end why run stop = (All-nil (λ (e : Event). is_undo e ≡ true), ap (λ (x : State). x.stop) run ∙ stop)
 behind (e ∷ es) s end why run stop = by (goes e s run.0) (λ kept. behind es (after e s) end why run.1 kept)
@@ -79,3 +83,63 @@ stopped-by (e ∷ es) s end why run none stop = by (stop_after e None) refl (λ 
           keeps = is ∙ sym rest.1 ∙ stop;
           undoes = rest.0;
         }
+
+-- The number of devices that failed
+
+abbrev one : Bool → ℕ
+one b = cond b 1 0
+
+counts-one : (e : Event) (es : List Event) → count_by is_fault (e ∷ es) ≡ one (is_fault e) + count_by is_fault es
+counts-one e es = sum_by-cons (λ (x : Event). one (is_fault x)) e es
+
+-- No device fails at an undo.
+undo-fails : (e : Event) → is_undo e ≡ true → one (is_fault e) ≡ 0
+undo-fails (Event.Undo seat attempt) is = refl
+undo-fails (Event.Home seat attempt) is = refl
+undo-fails _ is = absurd (let clash : false ≡ true = is in cc)
+
+none-fails : (es : List Event) → All (λ e. is_undo e ≡ true) es → count_by is_fault es ≡ 0
+none-fails [] all = refl
+none-fails (e ∷ es) all =
+    let sum = counts-one e es in
+    let first = undo-fails e (All-head (λ (x : Event). is_undo x ≡ true) e es all) in
+    let rest = none-fails es (All-tail (λ (x : Event). is_undo x ≡ true) e es all) in omega (arith, sum, first, rest)
+
+-- No device fails at an event that keeps no stop.
+going-fails : (e : Event) → stop_after e None ≡ None → one (is_fault e) ≡ 0
+going-fails (Event.Refuse seat attempt device) is = absurd (let clash : ◌≡◌ {A = Option Stop} (Some (Stop.DeviceFault device)) None = is in cc)
+going-fails _ is = refl
+
+-- A halt isn't a device's fault.
+halt-fails : (why : Stop) → only_seats_keep why ≡ false → 0 ≡ faults_at (Some why)
+halt-fails (Stop.DeviceFault device) e = absurd (let clash : true ≡ false = e in cc)
+halt-fails _ e = refl
+
+-- An event that keeps a stop is a device's fault if the stop is one.
+kept-fails : (e : Event) (s : State) (why : Stop) → May e s → stop_after e None ≡ Some why → one (is_fault e) ≡ faults_at (Some why)
+kept-fails (Event.Refuse seat attempt device) s why may is = ap faults_at is
+kept-fails (Event.Cut seat attempt steps place) s why may is = ap faults_at is
+kept-fails (Event.Tall seat attempt steps place) s why may is = ap faults_at is
+kept-fails (Event.Halt reason) s why may is = halt-fails reason may.apart ∙ ap faults_at is
+kept-fails _ s why may is = absurd (let clash : ◌≡◌ {A = Option Stop} None (Some why) = is in cc)
+
+-- A device fails at most once in a run, and then this is the stop.
+pub faults-kept : (es : List Event) (s end : State) → Follows s es end → s.stop ≡ None → count_by is_fault es ≡ faults_at end.stop
+faults-kept [] s end run none = sym (ap faults_at (ap (λ (x : State). x.stop) run ∙ none))
+faults-kept (e ∷ es) s end run none = by (stop_after e None) refl (λ going. faults-kept es (after e s) end run.1 going)
+  where
+    here : (after e s).stop ≡ stop_after e None
+    here = ap (stop_after e) none
+
+    by : (o : Option Stop) → stop_after e None ≡ o → ((after e s).stop ≡ None → count_by is_fault es ≡ faults_at end.stop)
+        → count_by is_fault (e ∷ es) ≡ faults_at end.stop
+    by None is further =
+        let sum = counts-one e es in
+        let first = going-fails e is in
+        let rest = further (here ∙ is) in omega (arith, sum, first, rest)
+    by (Some kept) is further =
+        let rest = behind es (after e s) end kept run.1 (here ∙ is) in
+        let sum = counts-one e es in
+        let first = kept-fails e s kept run.0 is in
+        let later = none-fails es rest.0 in
+        let stop = ap faults_at rest.1 in omega (arith, sum, first, later, stop)

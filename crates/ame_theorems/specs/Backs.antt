@@ -1,15 +1,15 @@
--- How often a member turns back.
+-- The number of times that a member turns back.
 use Rattle.std.specs.Prelude.{◌≡◌, ◌≢◌, ℕ, ◌≤◌, ◌==◌, ◌++◌, Bool, false, List, All, count_by}
 use Rattle.ame_pool.specs.Standings.{max_rollbacks}
 use Rattle.ame_protocol.specs.Event.Event.{Event}
 use Rattle.ame_protocol.specs.Event.Runs.{entries_along}
 
--- whether a seat with this member turns back
+-- Returns whether a seat with this member turns back.
 abbrev pub turns_back : ℕ → Event → Bool
 turns_back number (Event.TurnBack seat attempt why) = attempt.tried.number == number
 turns_back number _ = false
 
--- no entry of a run is one of this member
+-- No entry of a run is an entry of this member.
 abbrev pub HasNoEntryOf : ℕ → List Event → Type 0
 HasNoEntryOf number events = All (λ entry. entry.number ≢ number) (entries_along events)
 

@@ -7,7 +7,7 @@ use Rattle.ame_protocol.specs.Event.State.{State}
 use Rattle.ame_protocol.specs.Event.Event.{Event}
 use Rattle.ame_protocol.specs.Event.May.{ReadsAreValid}
 
--- the seat that makes an event; a halt is of no seat
+-- Returns the seat that makes an event. A halt is an event of no seat.
 abbrev pub seat_of : Event → Option ℕ
 seat_of (Event.Begin seat number) = Some seat
 seat_of (Event.Read seat l) = Some seat

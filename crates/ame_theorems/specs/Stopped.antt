@@ -1,16 +1,16 @@
--- What decides how a run ends.
+-- The event that decides how a run ends.
 use Rattle.std.specs.Prelude.{◌≡◌, Bool, true, false, List, ◌∷◌, ◌++◌, All, Some, None}
 use Rattle.ame_protocol.specs.declared.stop.Stop.{Stop}
 use Rattle.ame_protocol.specs.Event.After.{stop_after}
 use Rattle.ame_protocol.specs.Event.Event.{Event}
 
--- whether an event undoes what a seat has at work
+-- Returns whether an event undoes the work of a seat.
 abbrev pub is_undo : Event → Bool
 is_undo (Event.Undo seat attempt) = true
 is_undo (Event.Home seat attempt) = true
 is_undo _ = false
 
--- The first event that keeps a stop keeps this one. Behind it seats undo what they have at work, and do nothing else.
+-- The first event that keeps a stop keeps this one. After it seats undo their unfinished work, and do nothing else.
 pub record IsStoppedBy (why : Stop) (events : List Event) : Type 0 where
   pub before : List Event
   pub first : Event

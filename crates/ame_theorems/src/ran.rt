@@ -17,15 +17,16 @@ ghost use Rattle.ame_theorems.specs.Stopped.{IsStoppedBy};
 
 use ame_machine::Runner;
 
-/// Says that the counters of a run that is over tell its entries by their kinds: each visit left one unless its device failed, and each
-/// commit, each false condition and each value that was too high left one unless it was refused, since a read wasn't valid.
+/// Says that the counters of a run that is over count its entries by their kinds. The visits are the `Free` entries, and one more if the
+/// run stopped at a device's fault. Each commit, each false condition and each value that was too high left an entry, unless it was
+/// refused because a read wasn't valid.
 pub fn counters_tell_entries<M: Runner>()
     ensures { (since : List Entry) (program : Tree) (signature : Signature) (limits : Limits) (value : M.Value → Val) (before after : Ends) (end : End M.Value)
-        → (over : IsOverSince since program signature limits value before end after) → CountsByKind over.ran.events end.entries end.counters }
+        → (over : IsOverSince since program signature limits value before end after) → CountsByKind over.ran.events end.entries end.counters end.stop }
 {}
 
-/// Says that the first stop that is kept decides: it is the one that the run tells, and behind the event that kept it seats only undo what
-/// they have at work.
+/// Says that the first stop that is kept decides: it is the stop that the run reports, and after the event that kept it seats only undo
+/// their unfinished work.
 pub fn first_stops_decide<M: Runner>()
     ensures { (since : List Entry) (program : Tree) (signature : Signature) (limits : Limits) (value : M.Value → Val) (before after : Ends) (end : End M.Value)
         → (over : IsOverSince since program signature limits value before end after) (why : Stop) → end.stop ≡ Some why → IsStoppedBy why over.ran.events }

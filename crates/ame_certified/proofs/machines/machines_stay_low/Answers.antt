@@ -1,4 +1,4 @@
-use Rattle.ame_certified.proofs.MachineLemmas.{advanced-low, next-low, fed-low}
+use Rattle.ame_shell.proofs.LowLemmas.{advanced-low, next-low, fed-low}
 use Rattle.ame_certified.proofs.machines.machines_stay_low.Goals as goal
 
 pub returns-clause-advances : goal.returns-clause-advances

@@ -4,7 +4,7 @@ use Rattle.ame_journal.specs.declared.entry.Entry.{Entry}
 use Rattle.ame_drawing.specs.declared.stamp.Stamp.{Stamp}
 use Rattle.ame_drawing.specs.Stamps.{made_by_stamp, made_by_entry}
 
--- where they differ at one place, they differ
+-- if they differ at one place, they differ
 pub differ : (marks : List Stamp) (entries : List Entry) (i : ℕ) (s : Stamp) (e : Entry) → i < length marks → i < length entries →
     (made_by_stamp (get_or marks i s) ≡ made_by_entry (get_or entries i e) → ⊥) → map made_by_stamp marks ≡ map made_by_entry entries → ⊥
 differ [] entries i s e a b other same = absurd (omega (arith, a))

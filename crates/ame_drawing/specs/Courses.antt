@@ -14,7 +14,7 @@ abbrev pub has_number : ℕ → Moment → Bool
 has_number n (Moment.Entry done) = done.entry == n
 has_number n (Moment.Try lost) = false
 
--- the lane of a fragment, where those from the last lane's number on share it
+-- the lane of a task; those from the last lane's number on share it
 abbrev pub lane_up_to : ℕ → ℕ → ℕ
 lane_up_to last fragment = min fragment last
 
@@ -26,7 +26,7 @@ lanes_with last n moment = max n (lane_up_to last (fragment_of moment) + 1)
 abbrev pub lanes_up_to : ℕ → List Moment → ℕ
 lanes_up_to last moments = fold (lanes_with last) 0 moments
 
--- where entry n is, in which column and in which lane, where the first of these moments is in column k
+-- the column and the lane of entry n, if the first of these moments is in column k
 abbrev pub entry_spot : ℕ → ℕ → List Moment → Option Spot
 entry_spot n k [] = None
 entry_spot n k (moment ∷ moments) =
@@ -36,6 +36,6 @@ abbrev pub spot_by : List Moment → Option ℕ → Option Spot
 spot_by moments None = None
 spot_by moments (Some n) = entry_spot n 0 moments
 
--- where the fragment of a lane was started, if it is told by which entry
+-- the start of a lane's task, if its entry is known
 abbrev pub birth : List ℕ → List Moment → ℕ → Option Spot
 birth starters moments lane = if lane == LAST_LANE then None else spot_by moments (slice_get starters lane)

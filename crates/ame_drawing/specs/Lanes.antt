@@ -2,9 +2,9 @@
 use Rattle.std.specs.Prelude.{slice_index_or, ◌≡◌, ℕ, zero, suc, ◌+◌, ◌<◌, ◌≤◌, if◌then◌else◌, List, [], ◌∷◌, ◌++◌, Option, Some, None, All, Contains, option_to_list, ⊤}
 use Rattle.ame_journal.specs.declared.entry.EntryKind.{EntryKind}
 use Rattle.ame_drawing.specs.declared.pick.Did.{Did}
-use Rattle.ame_drawing.specs.declared.pick.Pick.{Pick}
+use Rattle.ame_drawing.specs.declared.pick.DrawnPick.{DrawnPick}
 use Rattle.ame_drawing.specs.declared.lane.Fate.{Fate}
-use Rattle.ame_drawing.specs.declared.lane.Attempt.{Attempt}
+use Rattle.ame_drawing.specs.declared.lane.DrawnAttempt.{DrawnAttempt}
 use Rattle.ame_drawing.specs.declared.lane.Entered.{Entered}
 use Rattle.ame_drawing.specs.Picks.{is_work_of, is_last, kind_made}
 
@@ -33,7 +33,7 @@ entry_then entry n None = entry
 entry_then entry n (Some kind) = Some (record { number = n; kind = kind })
 
 -- the attempt that has begun, if there is one, with pick k too, which makes entry n if it makes one; otherwise one that begins with it
-abbrev pub grown : ℕ → ℕ → Pick → Option Attempt → Attempt
+abbrev pub grown : ℕ → ℕ → DrawnPick → Option DrawnAttempt → DrawnAttempt
 grown n k pick None =
     record {
       seat = pick.seat;
@@ -45,8 +45,8 @@ grown n k pick None =
     }
 grown n k pick (Some attempt) = record attempt { to = k; fate = fate_after attempt.fate pick.did; entry = entry_then attempt.entry n (kind_made pick.did) }
 
--- the attempts on a seat, where this one has begun, the first of the picks is pick k, and the next entry has number n
-abbrev pub lane_from : ℕ → ℕ → ℕ → Option Attempt → List Pick → List Attempt
+-- the attempts on a seat, if this one has begun, the first of the picks is pick k, and the next entry has number n
+abbrev pub lane_from : ℕ → ℕ → ℕ → Option DrawnAttempt → List DrawnPick → List DrawnAttempt
 lane_from seat n k begun [] = option_to_list begun
 lane_from seat n k begun (pick ∷ picks) =
     let next = number_after n (kind_made pick.did) in
@@ -55,32 +55,32 @@ lane_from seat n k begun (pick ∷ picks) =
     else lane_from seat next (k + 1) (Some (grown n k pick begun)) picks)
     else lane_from seat next (k + 1) begun picks
 
-abbrev pub lane : ℕ → List Pick → List Attempt
+abbrev pub lane : ℕ → List DrawnPick → List DrawnAttempt
 lane seat picks = lane_from seat 1 0 None picks
 
--- the attempts on so many seats, lane by lane
-abbrev pub lanes_below : ℕ → List Pick → List Attempt
+-- the attempts on a number of seats, lane by lane
+abbrev pub lanes_below : ℕ → List DrawnPick → List DrawnAttempt
 lanes_below zero picks = []
 lanes_below (suc seats) picks = lanes_below seats picks ++ lane seats picks
 
--- an attempt on this seat, of some of so many picks
-pub record IsAttemptOn (seat count : ℕ) (attempt : Attempt) : Type 0 where
+-- an attempt on this seat, made of some of these picks
+pub record IsAttemptOn (seat count : ℕ) (attempt : DrawnAttempt) : Type 0 where
   pub here : attempt.seat ≡ seat
   pub order : attempt.from ≤ attempt.to
   pub end : attempt.to < count
 
--- one after the other: none begins before the one in front of it is over
-abbrev pub AreOneAfterOther : List Attempt → Type 0
+-- one after the other: none begins before the previous one is over
+abbrev pub AreOneAfterOther : List DrawnAttempt → Type 0
 AreOneAfterOther [] = ⊤
 AreOneAfterOther (attempt ∷ attempts) = All (λ later. attempt.to < later.from) attempts × AreOneAfterOther attempts
 
 -- pick k is from the first one of an attempt to its last
-abbrev pub IsDuring : ℕ → Attempt → Type 0
+abbrev pub IsDuring : ℕ → DrawnAttempt → Type 0
 IsDuring k attempt = (attempt.from ≤ k) × (k ≤ attempt.to)
 
 -- pick k lies in one of these attempts, and in no other
-pub record LiesInOne (attempts : List Attempt) (k : ℕ) : Type 0 where
-  pub one : Attempt
+pub record LiesInOne (attempts : List DrawnAttempt) (k : ℕ) : Type 0 where
+  pub one : DrawnAttempt
   pub among : Contains attempts one
   pub lies : IsDuring k one
   pub alone : All (λ other. IsDuring k other → other ≡ one) attempts
@@ -99,17 +99,17 @@ end_made Fate.Visited = Some Did.CameHome
 end_made _ = None
 
 -- one of these attempts ends with pick k, and looks so
-pub record EndsSo (attempts : List Attempt) (k : ℕ) (fate : Fate) : Type 0 where
-  pub one : Attempt
+pub record EndsSo (attempts : List DrawnAttempt) (k : ℕ) (fate : Fate) : Type 0 where
+  pub one : DrawnAttempt
   pub among : Contains attempts one
   pub last : one.to ≡ k
   pub looks : one.fate ≡ fate
 
--- where an attempt looks as if a pick had ended it with an entry, its last pick did
-abbrev pub LooksAsEnded : List Pick → Attempt → Type 0
-LooksAsEnded picks attempt = (did : Did) (d : Pick) → end_made attempt.fate ≡ Some did → (slice_index_or picks attempt.to d).did ≡ did
+-- if an attempt looks as if a pick had ended it with an entry, its last pick did
+abbrev pub LooksAsEnded : List DrawnPick → DrawnAttempt → Type 0
+LooksAsEnded picks attempt = (did : Did) (d : DrawnPick) → end_made attempt.fate ≡ Some did → (slice_index_or picks attempt.to d).did ≡ did
 
--- the kind of the entry that an attempt looks to have made, where it looks committed or visited
+-- the kind of the entry that an attempt looks to have made, if it looks committed or visited
 abbrev pub kind_shown : Fate → Option EntryKind
 kind_shown Fate.Ended = Some EntryKind.Ran
 kind_shown Fate.Left = Some EntryKind.Ran
@@ -120,6 +120,6 @@ abbrev pub kind_entered : Option Entered → Option EntryKind
 kind_entered None = None
 kind_entered (Some entry) = Some entry.kind
 
--- where an attempt looks committed or visited, it made such an entry
-abbrev pub FitsFate : Attempt → Type 0
+-- if an attempt looks committed or visited, it made such an entry
+abbrev pub FitsFate : DrawnAttempt → Type 0
 FitsFate attempt = (kind : EntryKind) → kind_shown attempt.fate ≡ Some kind → kind_entered attempt.entry ≡ Some kind

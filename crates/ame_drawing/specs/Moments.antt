@@ -1,4 +1,4 @@
--- What a picture by fragments shows of a run: the entries of its journal, and the tries that left none, in one row.
+-- Moments: the entries of a run's journal, and the tries that left none, in one row, as a picture by tasks shows them.
 use Rattle.std.specs.Prelude.{◌≡◌, ℕ, ◌+◌, Bool, nat_lt, List, [], ◌∷◌, ◌++◌, map, take, drop}
 use Rattle.std.specs.List.{flat_map, prefix_len}
 use Rattle.ame_journal.specs.declared.entry.Entry.{Entry}
@@ -14,7 +14,7 @@ done_of n entry = record { entry = n; kind = entry.kind; seat = entry.seat; frag
 abbrev pub is_before : ℕ → Tried → Bool
 is_before n lost = nat_lt lost.at n
 
--- the first tries, as far as these were valid before entry n, and the tries behind those
+-- the first tries, as far as these were valid before entry n, and the later tries
 abbrev pub tries_before : ℕ → List Tried → List Tried
 tries_before n tries = take (prefix_len (is_before n) tries) tries
 
@@ -24,7 +24,7 @@ tries_left n tries = drop (prefix_len (is_before n) tries) tries
 abbrev pub tries_shown : List Tried → List Moment
 tries_shown tries = map Moment.Try tries
 
--- the moments of entries, the first of which is entry n, and of tries between them, none before the entries behind which it was valid last
+-- the moments of entries, from entry n on, and of tries between them; each try comes after the entries after which it was last valid
 abbrev pub moments : ℕ → List Entry → List Tried → List Moment
 moments n [] tries = tries_shown tries
 moments n (entry ∷ entries) tries = tries_shown (tries_before n tries) ++ Moment.Entry (done_of n entry) ∷ moments (n + 1) entries (tries_left n tries)

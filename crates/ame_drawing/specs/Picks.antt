@@ -1,8 +1,8 @@
--- What a pick tells.
+-- The outcome of a pick.
 use Rattle.std.specs.Prelude.{ℕ, ◌==◌, ◌&&◌, Bool, true, false, Option, Some, None}
 use Rattle.ame_journal.specs.declared.entry.EntryKind.{EntryKind}
 use Rattle.ame_drawing.specs.declared.pick.Did.{Did}
-use Rattle.ame_drawing.specs.declared.pick.Pick.{Pick}
+use Rattle.ame_drawing.specs.declared.pick.DrawnPick.{DrawnPick}
 
 -- whether the seat has a member at work
 abbrev pub is_work : Did → Bool
@@ -29,7 +29,7 @@ kind_made Did.Cut = Some EntryKind.Cut
 kind_made _ = None
 
 -- whether this seat has a member at work in the pick
-abbrev pub is_work_of : ℕ → Pick → Bool
+abbrev pub is_work_of : ℕ → DrawnPick → Bool
 is_work_of seat pick = pick.seat == seat && is_work pick.did
 
 -- whether a pick writes to a location, or makes it
@@ -42,7 +42,7 @@ abbrev pub is_place : ℕ → Option ℕ → Bool
 is_place place None = false
 is_place place (Some other) = other == place
 
-abbrev pub is_write_to : ℕ → Pick → Bool
+abbrev pub is_write_to : ℕ → DrawnPick → Bool
 is_write_to place pick = is_write pick.did && is_place place pick.place
 
 abbrev pub is_read : Did → Bool
@@ -50,9 +50,9 @@ is_read Did.Read = true
 is_read _ = false
 
 -- whether a pick reads this location
-abbrev pub is_read_of : ℕ → Pick → Bool
+abbrev pub is_read_of : ℕ → DrawnPick → Bool
 is_read_of place pick = is_read pick.did && is_place place pick.place
 
 -- whether what this seat owns ends with a pick
-abbrev pub is_release_of : ℕ → Pick → Bool
+abbrev pub is_release_of : ℕ → DrawnPick → Bool
 is_release_of seat pick = pick.seat == seat && is_last pick.did

@@ -6,7 +6,7 @@ use Rattle.ame_shell.specs.declared.work.Outcome.{Outcome}
 use Rattle.ame_sim.specs.declared.made.Made.{Made}
 use Rattle.ame_sim.specs.declared.picked.Picked.{Picked}
 use Rattle.ame_drawing.specs.declared.pick.Did.{Did}
-use Rattle.ame_drawing.specs.declared.pick.Pick.{Pick}
+use Rattle.ame_drawing.specs.declared.pick.DrawnPick.{DrawnPick}
 
 -- what a seat did, by the outcome of its turn; the last entry cut a member off, or it didn't
 abbrev pub did_of : Bool → Outcome → Did
@@ -34,7 +34,7 @@ did_of cut Outcome.WentHome = Did.WentHome
 did_of cut Outcome.Lacked = Did.Idled
 
 -- a pick with its outcome
-abbrev pub shown : Bool → Made → Pick
+abbrev pub shown : Bool → Made → DrawnPick
 shown cut made = record { seat = made.seat; member = unwrap_or made.member 0; did = did_of cut made.outcome; place = made.place }
 
 abbrev pub is_cut_kind : EntryKind → Bool

@@ -2,17 +2,17 @@
 use Rattle.std.specs.Prelude.{ℕ, ◌+◌, List, [], ◌∷◌, ◌++◌, Option, Some, None}
 use Rattle.ame_journal.specs.declared.entry.Entry.{Entry}
 use Rattle.ame_journal.specs.declared.entry.EntryKind.{EntryKind}
-use Rattle.ame_drawing.specs.declared.pick.Pick.{Pick}
+use Rattle.ame_drawing.specs.declared.pick.DrawnPick.{DrawnPick}
 use Rattle.ame_drawing.specs.declared.stamp.Stamp.{Stamp}
 use Rattle.ame_drawing.specs.Picks.{kind_made}
 
 -- the stamp of pick k, if it made an entry of some kind
-abbrev pub stamp_of : ℕ → Pick → Option EntryKind → List Stamp
+abbrev pub stamp_of : ℕ → DrawnPick → Option EntryKind → List Stamp
 stamp_of k pick None = []
 stamp_of k pick (Some kind) = record { kind = kind; seat = pick.seat; member = pick.member; pick = k } ∷ []
 
--- the stamps of picks, the first of which is pick k
-abbrev pub stamps : ℕ → List Pick → List Stamp
+-- the stamps of picks; the first is pick k
+abbrev pub stamps : ℕ → List DrawnPick → List Stamp
 stamps k [] = []
 stamps k (pick ∷ picks) = stamp_of k pick (kind_made pick.did) ++ stamps (k + 1) picks
 

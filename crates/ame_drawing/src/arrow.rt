@@ -4,7 +4,7 @@ ghost use Rattle.std.specs.Prelude.{◌≡◌, ◌<◌, ◌≤◌, ◌^◌, None
 ghost use Rattle.ame_drawing.specs.Arrows as spec;
 ghost use Rattle.ame_drawing.specs.Arrows.{LeadsAmong};
 
-use crate::pick::{Did, Pick};
+use crate::pick::{Did, DrawnPick};
 use ame_term::NoMemory;
 use std::alloc::Global;
 
@@ -48,7 +48,7 @@ pub struct Spot {
 }
 
 /// Returns the arrows of a run, in the order of the picks that they belong to.
-pub(crate) fn arrows_of(alloc: Global, picks: &[Pick]) -> Result<Vec<Arrow>, NoMemory>
+pub(crate) fn arrows_of(alloc: Global, picks: &[DrawnPick]) -> Result<Vec<Arrow>, NoMemory>
     requires { length picks.now < 2 ^ 32 }
     ensures told { IfOk result (λ arrows. arrows.items ≡ spec.arrows_from picks.now 0 picks.now) }
     ensures among { IfOk result (λ arrows. All (LeadsAmong picks.now) arrows.items) }
@@ -58,7 +58,7 @@ pub(crate) fn arrows_of(alloc: Global, picks: &[Pick]) -> Result<Vec<Arrow>, NoM
 }
 
 /// Collects the arrows of a run.
-fn collect(alloc: Global, picks: &[Pick]) -> Result<Vec<Arrow>, NoMemory>
+fn collect(alloc: Global, picks: &[DrawnPick]) -> Result<Vec<Arrow>, NoMemory>
     requires { length picks.now < 2 ^ 32 }
     ensures { IfOk result (λ arrows. arrows.items ≡ spec.arrows_from picks.now 0 picks.now) }
 {
@@ -72,7 +72,7 @@ fn collect(alloc: Global, picks: &[Pick]) -> Result<Vec<Arrow>, NoMemory>
 }
 
 /// Returns the arrow of a pick, if these picks were made before it.
-fn arrow_of(earlier: &[Pick], index: u32, pick: &Pick) -> Option<Arrow>
+fn arrow_of(earlier: &[DrawnPick], index: u32, pick: &DrawnPick) -> Option<Arrow>
     requires { length earlier.now < 2 ^ 32 }
     ensures { result ≡ spec.arrow_by index pick.now earlier.now pick.now.did }
 {
@@ -88,7 +88,7 @@ fn arrow_of(earlier: &[Pick], index: u32, pick: &Pick) -> Option<Arrow>
 }
 
 /// Returns the place of a pick with this index.
-pub(crate) fn spot_of(index: u32, pick: &Pick) -> Spot
+pub(crate) fn spot_of(index: u32, pick: &DrawnPick) -> Spot
     ensures { result ≡ spec.spot_of index pick.now }
 {
     Spot {
@@ -112,21 +112,21 @@ pub(crate) fn between(kind: ArrowKind, member: u64, from: Spot, to: Spot) -> Arr
 }
 
 /// Returns the arrow of a member that goes on, if it was at work before.
-fn continuation(pick: &Pick, last: Option<Spot>, here: Spot) -> Option<Arrow>
+fn continuation(pick: &DrawnPick, last: Option<Spot>, here: Spot) -> Option<Arrow>
     ensures { result ≡ spec.continuation pick.now last here }
 {
     Some(between(ArrowKind::GoesOn, pick.member, last?, here))
 }
 
 /// Returns the arrow to the owner's last write, which was in the way.
-fn obstacle(pick: &Pick, write: Option<Spot>, here: Spot) -> Option<Arrow>
+fn obstacle(pick: &DrawnPick, write: Option<Spot>, here: Spot) -> Option<Arrow>
     ensures { result ≡ spec.obstacle pick.now write here }
 {
     Some(between(ArrowKind::InTheWay, pick.member, here, write?))
 }
 
 /// Returns the last pick that is sought.
-pub(crate) fn last_spot(picks: &[Pick], sought: Sought) -> Option<Spot>
+pub(crate) fn last_spot(picks: &[DrawnPick], sought: Sought) -> Option<Spot>
     requires { length picks.now < 2 ^ 32 }
     ensures { result ≡ spec.last_spot sought 0 None picks.now }
 {
@@ -143,7 +143,7 @@ impl Sought {
     ghost use Rattle.ame_drawing.specs.Arrows as spec;
 
     /// Returns whether a pick is one that is sought.
-    fn is_met_by(self, pick: &Pick) -> bool
+    fn is_met_by(self, pick: &DrawnPick) -> bool
         ensures { result ≡ spec.is_sought self pick.now }
     {
         match self {

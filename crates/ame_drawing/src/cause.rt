@@ -7,8 +7,8 @@ ghost use Rattle.ame_drawing.specs.Spans as spec_spans;
 ghost use Rattle.ame_drawing.specs.Stamps as spec_stamps;
 
 use crate::arrow::{Arrow, ArrowKind, Sought, Spot, between, last_spot, spot_of};
-use crate::pick::{Did, Pick};
-use crate::span::{Outcome, Span};
+use crate::pick::{Did, DrawnPick};
+use crate::span::{Span, SpanEnd};
 use crate::stamp::Stamp;
 use ame_term::NoMemory;
 use std::alloc::Global;
@@ -44,7 +44,7 @@ pub(crate) struct Known<'a> {
 pub(crate) fn causes_of(
     alloc: Global,
     known: &Known<'_>,
-    picks: &[Pick],
+    picks: &[DrawnPick],
 ) -> Result<Vec<Arrow>, NoMemory>
     requires { length picks.now < 2 ^ 32 }
     ensures told { IfOk result (λ arrows. arrows.items
@@ -57,7 +57,7 @@ pub(crate) fn causes_of(
 }
 
 /// Collects the causes.
-fn collect(alloc: Global, known: &Known<'_>, picks: &[Pick]) -> Result<Vec<Arrow>, NoMemory>
+fn collect(alloc: Global, known: &Known<'_>, picks: &[DrawnPick]) -> Result<Vec<Arrow>, NoMemory>
     requires { length picks.now < 2 ^ 32 }
     ensures { IfOk result (λ arrows. arrows.items
         ≡ spec.causes_from known.now.starters.now known.now.stamps.now known.now.places known.now.spans.now picks.now 0 picks.now) }
@@ -72,7 +72,7 @@ fn collect(alloc: Global, known: &Known<'_>, picks: &[Pick]) -> Result<Vec<Arrow
 }
 
 /// Returns what led to a pick, if these were made before it.
-fn cause_of(known: &Known<'_>, earlier: &[Pick], index: u32, pick: &Pick) -> Option<Arrow>
+fn cause_of(known: &Known<'_>, earlier: &[DrawnPick], index: u32, pick: &DrawnPick) -> Option<Arrow>
     requires { length earlier.now < 2 ^ 32 }
     ensures { result ≡ spec.cause_by known.now.starters.now known.now.stamps.now known.now.places known.now.spans.now index pick.now earlier.now pick.now.did }
 {
@@ -92,7 +92,7 @@ fn cause_of(known: &Known<'_>, earlier: &[Pick], index: u32, pick: &Pick) -> Opt
 }
 
 /// Returns an arrow to the beginning of a member, if its cause is known.
-fn arrow_from(kind: ArrowKind, index: u32, pick: &Pick, spot: Option<Spot>) -> Option<Arrow>
+fn arrow_from(kind: ArrowKind, index: u32, pick: &DrawnPick, spot: Option<Spot>) -> Option<Arrow>
     ensures { result ≡ spec.arrow_from kind index pick.now spot }
 {
     Some(between(kind, pick.member, spot?, spot_of(index, pick)))
@@ -125,7 +125,13 @@ fn entry_pick(stamps: &[Stamp], number: u64) -> Option<Spot>
 }
 
 /// Returns the first commit before a pick of one of the first locations, if the member waits for it after these picks.
-fn waker(places: u32, member: u64, index: u32, spans: &[Span], earlier: &[Pick]) -> Option<Spot>
+fn waker(
+    places: u32,
+    member: u64,
+    index: u32,
+    spans: &[Span],
+    earlier: &[DrawnPick],
+) -> Option<Spot>
     requires { length earlier.now < 2 ^ 32 }
     ensures { result ≡ spec.waker places member index spans.now earlier.now }
 {
@@ -174,7 +180,7 @@ fn first_with(place: u32, since: u32, index: u32, first: Option<Spot>, span: &Sp
 fn is_release_between(place: u32, since: u32, index: u32, span: &Span) -> bool
     ensures { result ≡ spec.is_release_between place since index span.now }
 {
-    matches!(span.outcome, Outcome::Committed)
+    matches!(span.outcome, SpanEnd::Committed)
         && span.place == place
         && since < span.to
         && span.to < index
@@ -191,7 +197,7 @@ fn sooner(spot: Spot, first: Option<Spot>) -> Spot
 }
 
 /// Returns the pick since which a member waits for a location, if these picks were made.
-fn waits_since(member: u64, place: u32, picks: &[Pick]) -> Option<u32>
+fn waits_since(member: u64, place: u32, picks: &[DrawnPick]) -> Option<u32>
     requires { length picks.now < 2 ^ 32 }
     ensures { result ≡ spec.waits_since member place picks.now }
 {
@@ -203,7 +209,7 @@ fn waits_since(member: u64, place: u32, picks: &[Pick]) -> Option<u32>
 }
 
 /// Returns the wait of a member for a location after these picks.
-fn wait_over(member: u64, place: u32, picks: &[Pick]) -> Wait
+fn wait_over(member: u64, place: u32, picks: &[DrawnPick]) -> Wait
     requires { length picks.now < 2 ^ 32 }
     ensures { result ≡ spec.wait_from member place 0 spec.no_wait picks.now }
 {
@@ -218,7 +224,7 @@ fn wait_over(member: u64, place: u32, picks: &[Pick]) -> Wait
 }
 
 /// Returns the wait after one more pick.
-fn wait_after(member: u64, place: u32, index: u32, pick: &Pick, wait: Wait) -> Wait
+fn wait_after(member: u64, place: u32, index: u32, pick: &DrawnPick, wait: Wait) -> Wait
     ensures { result ≡ spec.wait_after member place index pick.now wait }
 {
     if pick.member == member && pick.did.is_work() {
@@ -229,7 +235,7 @@ fn wait_after(member: u64, place: u32, index: u32, pick: &Pick, wait: Wait) -> W
 }
 
 /// Returns the wait after one more pick of the member. An attempt begins untouched; if its condition is false, the member waits from then on.
-fn wait_by(place: u32, index: u32, pick: &Pick, wait: Wait) -> Wait
+fn wait_by(place: u32, index: u32, pick: &DrawnPick, wait: Wait) -> Wait
     ensures { result ≡ spec.wait_by place index pick.now pick.now.did wait }
 {
     match pick.did {
@@ -252,7 +258,7 @@ impl Touch {
     ghost use Rattle.ame_drawing.specs.Causes as spec;
 
     /// Returns the touch of an attempt after one more pick.
-    fn after(self, place: u32, pick: &Pick) -> Touch
+    fn after(self, place: u32, pick: &DrawnPick) -> Touch
         ensures { result ≡ spec.touch_after place pick.now self }
     {
         match self {

@@ -4,7 +4,7 @@ ghost use Rattle.std.specs.Prelude.{◌≡◌, ◌+◌, ◌++◌, ◌↔◌, IfO
 ghost use Rattle.std.specs.List.{flat_map};
 ghost use Rattle.ame_drawing.specs.Claims as spec;
 
-use crate::lane::Attempt;
+use crate::lane::DrawnAttempt;
 use ame_journal::{Entry, EntryKind};
 use ame_term::NoMemory;
 use std::alloc::Global;
@@ -23,7 +23,7 @@ pub(crate) fn tell_entries(
     alloc: Global,
     seats: u32,
     entries: &[Entry],
-    attempts: &[Attempt],
+    attempts: &[DrawnAttempt],
 ) -> Result<bool, NoMemory>
     ensures { IfOk result (λ are. IsTrue are ↔ spec.TellEntries seats entries.now attempts.now) }
 {
@@ -58,7 +58,7 @@ fn is_claim(claim: &Claim, other: &Claim) -> bool
 }
 
 /// Returns the entries that attempts show.
-fn claims_in(alloc: Global, attempts: &[Attempt]) -> Result<Vec<Claim>, NoMemory>
+fn claims_in(alloc: Global, attempts: &[DrawnAttempt]) -> Result<Vec<Claim>, NoMemory>
     ensures { IfOk result (λ claims. claims.items ≡ flat_map spec.claim_in attempts.now) }
 {
     let mut claims = Vec::new(alloc);
@@ -86,7 +86,7 @@ fn claims_below(alloc: Global, seats: u32, entries: &[Entry]) -> Result<Vec<Clai
     Ok(claims)
 }
 
-/// Adds the entries of a seat as they are to be shown.
+/// Appends the entries of a seat as they are to be shown.
 fn add_claims_on(claims: &mut Vec<Claim>, seat: u32, entries: &[Entry]) -> Result<(), NoMemory>
     ensures { OnOk result (claims.new.items ≡ claims.old.items ++ spec.claims_on seat 1 entries.now) }
 {

@@ -6,8 +6,8 @@ ghost use Rattle.ame_drawing.specs.Drawings.{AreMadeBy, IsDrawingOf};
 
 use crate::arrow::{Arrow, arrows_of};
 use crate::cause::{Known, causes_of};
-use crate::lane::{Attempt, lanes_below};
-use crate::pick::Pick;
+use crate::lane::{DrawnAttempt, lanes_below};
+use crate::pick::DrawnPick;
 use crate::span::{Span, lanes_of, spans_of};
 use crate::stamp::{Stamp, are_of, stamps_of};
 use ame_journal::Entry;
@@ -19,8 +19,8 @@ use std::alloc::Global;
 #[derive(Drop)]
 pub struct Drawing {
     pub seats: u32,
-    pub picks: Vec<Pick>,
-    pub attempts: Vec<Attempt>,
+    pub picks: Vec<DrawnPick>,
+    pub attempts: Vec<DrawnAttempt>,
     pub arrows: Vec<Arrow>,
     pub causes: Vec<Arrow>,
     pub places: u32,
@@ -33,7 +33,7 @@ pub struct Drawing {
 pub fn drawing_of(
     alloc: Global,
     seats: u32,
-    picks: &[Pick],
+    picks: &[DrawnPick],
     entries: &[Entry],
     starters: &[u64],
 ) -> Result<Option<Drawing>, NoMemory>

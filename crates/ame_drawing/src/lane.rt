@@ -5,7 +5,7 @@ ghost use Rattle.ame_drawing.specs.Lanes as spec;
 ghost use Rattle.ame_drawing.specs.Picks as spec_picks;
 ghost use Rattle.ame_drawing.specs.Lanes.{IsAttemptOn, AreOneAfterOther, LiesInOne, EndsSo, LooksAsEnded, FitsFate};
 
-use crate::pick::{Did, Pick};
+use crate::pick::{Did, DrawnPick};
 use ame_journal::EntryKind;
 use ame_term::NoMemory;
 use std::alloc::Global;
@@ -62,7 +62,7 @@ pub struct Entered {
 
 /// An attempt of a member on a seat: the numbers of its first pick and of its last, counted from 0, and the entry that it made, if it made one.
 #[derive(Clone, Copy, PartialEq, Eq, Debug)]
-pub struct Attempt {
+pub struct DrawnAttempt {
     pub seat: u32,
     pub member: u64,
     pub from: u32,
@@ -73,14 +73,14 @@ pub struct Attempt {
 
 /// Returns the attempts on a seat, in order. They don't overlap, and each pick in which the seat has a member at work lies in one.
 /// One that looks committed or visited ends with such a pick and made such an entry, and each such pick ends one that looks so.
-pub fn lane_of(alloc: Global, picks: &[Pick], seat: u32) -> Result<Vec<Attempt>, NoMemory>
+pub fn lane_of(alloc: Global, picks: &[DrawnPick], seat: u32) -> Result<Vec<DrawnAttempt>, NoMemory>
     requires { length picks.now < 2 ^ 32 }
     ensures told { IfOk result (λ lane. lane.items ≡ spec.lane seat picks.now) }
     ensures within { IfOk result (λ lane. All (IsAttemptOn seat (length picks.now)) lane.items) }
     ensures apart { IfOk result (λ lane. AreOneAfterOther lane.items) }
-    ensures covered { IfOk result (λ lane. (k : ℕ) (d : Pick) → k < length picks.now → spec_picks.is_work_of seat (slice_index_or picks.now k d) ≡ true
+    ensures covered { IfOk result (λ lane. (k : ℕ) (d : DrawnPick) → k < length picks.now → spec_picks.is_work_of seat (slice_index_or picks.now k d) ≡ true
         → LiesInOne lane.items k) }
-    ensures ended { IfOk result (λ lane. (k : ℕ) (d : Pick) (fate : Fate) → k < length picks.now
+    ensures ended { IfOk result (λ lane. (k : ℕ) (d : DrawnPick) (fate : Fate) → k < length picks.now
         → spec_picks.is_work_of seat (slice_index_or picks.now k d) ≡ true
         → spec.fate_made (slice_index_or picks.now k d).did ≡ Some fate → EndsSo lane.items k fate) }
     ensures looks { IfOk result (λ lane. All (LooksAsEnded picks.now) lane.items) }
@@ -91,7 +91,7 @@ pub fn lane_of(alloc: Global, picks: &[Pick], seat: u32) -> Result<Vec<Attempt>,
 }
 
 /// Collects the attempts on a seat.
-fn collect(alloc: Global, picks: &[Pick], seat: u32) -> Result<Vec<Attempt>, NoMemory>
+fn collect(alloc: Global, picks: &[DrawnPick], seat: u32) -> Result<Vec<DrawnAttempt>, NoMemory>
     requires { length picks.now < 2 ^ 32 }
     ensures { IfOk result (λ lane. lane.items ≡ spec.lane seat picks.now) }
 {
@@ -129,12 +129,12 @@ fn number_after(number: u64, made: Option<EntryKind>) -> u64
 
 /// Returns the attempt that has begun, if there is one, with one more pick, which makes this entry if it makes one; otherwise one that begins with
 /// this pick.
-fn grown(number: u64, index: u32, pick: &Pick, begun: Option<Attempt>) -> Attempt
+fn grown(number: u64, index: u32, pick: &DrawnPick, begun: Option<DrawnAttempt>) -> DrawnAttempt
     ensures { result ≡ spec.grown number index pick.now begun }
 {
     let made = pick.did.kind_made();
     match begun {
-        None => Attempt {
+        None => DrawnAttempt {
             seat: pick.seat,
             member: pick.member,
             from: index,
@@ -142,7 +142,7 @@ fn grown(number: u64, index: u32, pick: &Pick, begun: Option<Attempt>) -> Attemp
             fate: Fate::UnderWay.after(pick.did),
             entry: entry_then(None, number, made),
         },
-        Some(attempt) => Attempt {
+        Some(attempt) => DrawnAttempt {
             to: index,
             fate: attempt.fate.after(pick.did),
             entry: entry_then(attempt.entry, number, made),
@@ -165,8 +165,8 @@ fn entry_then(entry: Option<Entered>, number: u64, made: Option<EntryKind>) -> O
 pub(crate) fn lanes_below(
     alloc: Global,
     seats: u32,
-    picks: &[Pick],
-) -> Result<Vec<Attempt>, NoMemory>
+    picks: &[DrawnPick],
+) -> Result<Vec<DrawnAttempt>, NoMemory>
     requires { length picks.now < 2 ^ 32 }
     ensures told { IfOk result (λ all. all.items ≡ spec.lanes_below seats picks.now) }
     ensures fates { IfOk result (λ all. All FitsFate all.items) }

@@ -90,7 +90,7 @@ fn count_before(tries: &[Tried], number: u64) -> usize
     tries.iter().take_while(|lost| lost.at < number).count()
 }
 
-/// Adds tries.
+/// Appends tries.
 fn add_tries(moments: &mut Vec<Moment>, tries: &[Tried]) -> Result<(), NoMemory>
     ensures { OnOk result (moments.new.items ≡ moments.old.items ++ spec.tries_shown tries.now) }
 {

@@ -85,14 +85,14 @@ impl Did {
 /// A pick: the seat, the member that it has at work, what it did, and the location that it read, wrote, met or made, if any.
 /// If it idled, the member says nothing.
 #[derive(Clone, Copy, PartialEq, Eq, Debug)]
-pub struct Pick {
+pub struct DrawnPick {
     pub seat: u32,
     pub member: u64,
     pub did: Did,
     pub place: Option<u32>,
 }
 
-impl Pick {
+impl DrawnPick {
     ghost use Rattle.std.specs.Prelude.{◌≡◌};
     ghost use Rattle.ame_drawing.specs.Picks as spec;
 

@@ -4,7 +4,7 @@ ghost use Rattle.std.specs.Prelude.{◌≡◌, IfOk, length, map};
 ghost use Rattle.std.specs.List.{fold};
 ghost use Rattle.ame_drawing.specs.Shown as spec;
 
-use crate::pick::{Did, Pick};
+use crate::pick::{Did, DrawnPick};
 use ame_journal::{Entry, EntryKind};
 use ame_shell::Outcome;
 use ame_sim::{Made, MadesIter, Picked};
@@ -16,7 +16,7 @@ pub fn shown_picks(
     alloc: Global,
     mades: MadesIter<'_>,
     entries: &[Entry],
-) -> Result<Vec<Pick>, NoMemory>
+) -> Result<Vec<DrawnPick>, NoMemory>
     ensures shown { IfOk result (λ picks. picks.items ≡ map (spec.shown (spec.is_cut entries.now)) mades.entry) }
     ensures count { IfOk result (λ picks. length picks.items ≡ length mades.entry) }
 {
@@ -49,10 +49,10 @@ fn is_cut(entries: &[Entry]) -> bool
     }
 }
 
-fn shown(made: Made, is_cut: bool) -> Pick
+fn shown(made: Made, is_cut: bool) -> DrawnPick
     ensures { result ≡ spec.shown is_cut made }
 {
-    Pick {
+    DrawnPick {
         seat: made.seat,
         member: made.member.unwrap_or(0),
         did: did_of(made.outcome, is_cut),

@@ -3,13 +3,13 @@
 ghost use Rattle.std.specs.Prelude.{◌≡◌, ◌+◌, ◌<◌, ◌^◌, ◌++◌, None, IfOk, OnOk, length, min};
 ghost use Rattle.ame_drawing.specs.Spans as spec;
 
-use crate::pick::{Did, Pick};
+use crate::pick::{Did, DrawnPick};
 use ame_term::NoMemory;
 use std::alloc::Global;
 
 /// The fate of what was written.
 #[derive(Clone, Copy, PartialEq, Eq, Debug)]
-pub enum Outcome {
+pub enum SpanEnd {
     /// The run was over before.
     Owned,
     Committed,
@@ -24,14 +24,18 @@ pub struct Span {
     pub member: u64,
     pub from: u32,
     pub to: u32,
-    pub outcome: Outcome,
+    pub outcome: SpanEnd,
 }
 
 /// The most locations that have a lane.
 pub const LANES: u32 = 12;
 
 /// Returns the spans of the first locations, one location after another.
-pub(crate) fn spans_of(alloc: Global, places: u32, picks: &[Pick]) -> Result<Vec<Span>, NoMemory>
+pub(crate) fn spans_of(
+    alloc: Global,
+    places: u32,
+    picks: &[DrawnPick],
+) -> Result<Vec<Span>, NoMemory>
     requires { length picks.now < 2 ^ 32 }
     ensures { IfOk result (λ spans. spans.items ≡ spec.spans places picks.now) }
 {
@@ -42,8 +46,8 @@ pub(crate) fn spans_of(alloc: Global, places: u32, picks: &[Pick]) -> Result<Vec
     Ok(spans)
 }
 
-/// Adds the spans of a location, in order.
-fn add_spans_at(spans: &mut Vec<Span>, place: u32, picks: &[Pick]) -> Result<(), NoMemory>
+/// Appends the spans of a location, in order.
+fn add_spans_at(spans: &mut Vec<Span>, place: u32, picks: &[DrawnPick]) -> Result<(), NoMemory>
     requires { length picks.now < 2 ^ 32 }
     ensures { OnOk result (spans.new.items ≡ spans.old.items ++ spec.spans_from place 0 None picks.now) }
 {
@@ -73,7 +77,7 @@ fn add_spans_at(spans: &mut Vec<Span>, place: u32, picks: &[Pick]) -> Result<(),
 }
 
 /// Returns a span that begins with a pick.
-fn begin(place: u32, index: u32, pick: &Pick) -> Span
+fn begin(place: u32, index: u32, pick: &DrawnPick) -> Span
     ensures { result ≡ spec.span_begun place index pick.now }
 {
     Span {
@@ -82,17 +86,17 @@ fn begin(place: u32, index: u32, pick: &Pick) -> Span
         member: pick.member,
         from: index,
         to: index,
-        outcome: Outcome::Owned,
+        outcome: SpanEnd::Owned,
     }
 }
 
 /// Returns a span that ends with a pick.
-fn end(index: u32, pick: &Pick, span: Span) -> Span
+fn end(index: u32, pick: &DrawnPick, span: Span) -> Span
     ensures { result ≡ spec.span_ended index pick.now span }
 {
     let outcome = match pick.did {
-        Did::Ended | Did::Left => Outcome::Committed,
-        _ => Outcome::Undone,
+        Did::Ended | Did::Left => SpanEnd::Committed,
+        _ => SpanEnd::Undone,
     };
     Span {
         to: index,
@@ -102,7 +106,7 @@ fn end(index: u32, pick: &Pick, span: Span) -> Span
 }
 
 /// Returns the number of locations that have a lane: those that the picks name, and all below them, but for those past the limit.
-pub(crate) fn lanes_of(picks: &[Pick]) -> u32
+pub(crate) fn lanes_of(picks: &[DrawnPick]) -> u32
     ensures { result ≡ min (spec.count_from 0 picks.now) LANES }
 {
     let mut count = 0;

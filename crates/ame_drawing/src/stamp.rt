@@ -4,7 +4,7 @@ ghost use Rattle.std.specs.Prelude.{◌≡◌, ◌↔◌, ◌<◌, ◌^◌, IfOk
 ghost use Rattle.ame_drawing.specs.Stamps as spec;
 ghost use Rattle.ame_drawing.specs.Stamps.{made_by_stamp, made_by_entry};
 
-use crate::pick::Pick;
+use crate::pick::DrawnPick;
 use ame_journal::{Entry, EntryKind};
 use ame_term::NoMemory;
 use std::alloc::Global;
@@ -19,7 +19,7 @@ pub struct Stamp {
 }
 
 /// Returns a stamp for each pick that made an entry, in order.
-pub fn stamps_of(alloc: Global, picks: &[Pick]) -> Result<Vec<Stamp>, NoMemory>
+pub fn stamps_of(alloc: Global, picks: &[DrawnPick]) -> Result<Vec<Stamp>, NoMemory>
     requires { length picks.now < 2 ^ 32 }
     ensures { IfOk result (λ stamps. stamps.items ≡ spec.stamps 0 picks.now) }
 {

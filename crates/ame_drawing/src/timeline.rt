@@ -6,8 +6,8 @@ ghost use Rattle.ame_drawing.specs.Lanes as lanes;
 ghost use Rattle.ame_drawing.specs.Timelines.{IsTimelineOf};
 
 use crate::claim::tell_entries;
-use crate::lane::{Attempt, lanes_below};
-use crate::pick::Pick;
+use crate::lane::{DrawnAttempt, lanes_below};
+use crate::pick::DrawnPick;
 use ame_journal::Entry;
 use ame_term::NoMemory;
 use std::alloc::Global;
@@ -16,14 +16,14 @@ use std::alloc::Global;
 #[derive(Drop)]
 pub struct Timeline {
     pub seats: u32,
-    pub attempts: Vec<Attempt>,
+    pub attempts: Vec<DrawnAttempt>,
 }
 
 /// Returns the events of a run, or `None` if they don't show these entries one for one.
 pub fn timeline_of(
     alloc: Global,
     seats: u32,
-    picks: &[Pick],
+    picks: &[DrawnPick],
     entries: &[Entry],
 ) -> Result<Option<Timeline>, NoMemory>
     requires { length picks.now < 2 ^ 32 }

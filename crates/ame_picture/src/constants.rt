@@ -58,7 +58,7 @@ pub const KEYS: &[u8] = b"\
 /// The meaning of columns and lines in a picture by fragments.
 pub const COURSE_KEYS: &[u8] = b"\
 <text y=\"34\">a column an entry of the journal, or a try that left none, behind the entries where it was valid last</text>
-<text y=\"50\">dotted: from the entry that started a fragment down to its lane</text>
+<text y=\"50\">dotted: from the entry that started a task down to its lane</text>
 </g>
 ";
 

@@ -6,7 +6,7 @@ ghost use Rattle.ame_drawing.specs.Moments.{entry_in};
 ghost use Rattle.ame_picture.specs.Hidden.{HasHidden};
 
 use crate::constants::COURSE_KEYS;
-use crate::layout::{Layout, Point, left_of, middle_of, top_of};
+use crate::layout::{Layout, Spot, left_of, middle_of, top_of};
 use crate::svg::Svg;
 use crate::words::{kind_class, kind_words};
 use ame_drawing::{Done, LAST_LANE, Moment, Stamp, birth, lane_up_to, lanes_up_to};
@@ -65,14 +65,14 @@ fn draw_lives(
     requires { length moments.now < 2 ^ 32 }
 {
     for lane in 0..layout.lanes {
-        svg.lane_name("fragment ", lane)?;
+        svg.lane_name("task ", lane)?;
         let Some(spot) = birth(starters, moments, lane) else {
             svg.floor(layout, lane, 0)?;
             continue;
         };
         let x = middle_of(spot.pick);
-        let at = Point(x, top_of(spot.seat) + 30);
-        let to = Point(x, top_of(lane) + 33);
+        let at = Spot(x, top_of(spot.seat) + 30);
+        let to = Spot(x, top_of(lane) + 33);
         svg.floor(layout, lane, spot.pick)?;
         svg.member_line(u64::from(lane), "on", at, to)?;
     }
@@ -111,7 +111,7 @@ fn draw_boxes(svg: &mut Svg, moments: &[Moment]) -> Result<(), NoMemory>
     for (index, moment) in moments.iter().enumerate() {
         svg.begin_group(moment.fragment())?;
         svg.moment_title(moment)?;
-        let at = Point(
+        let at = Spot(
             left_of(index as u32) + 1,
             top_of(lane_up_to(LAST_LANE, moment.fragment())),
         );
@@ -164,14 +164,14 @@ impl Svg {
                 let did = kind_words(done.kind);
                 writeln!(
                     self.page,
-                    "<title>fragment {fragment}, entry {entry} on seat {seat}: {did}, {steps} steps</title>"
+                    "<title>task {fragment}, entry {entry} on seat {seat}: {did}, {steps} steps</title>"
                 )
             }
             Moment::Try(lost) => {
                 let (fragment, at, steps) = (lost.number, lost.at, lost.steps);
                 writeln!(
                     self.page,
-                    "<title>fragment {fragment}: rolled back, {steps} steps valid behind {at}</title>"
+                    "<title>task {fragment}: rolled back, {steps} steps, last valid after entry {at}</title>"
                 )
             }
         }

@@ -4,7 +4,7 @@ ghost use Rattle.std.specs.Prelude.{◌≡◌, ◌+◌, ◌-◌};
 
 use crate::constants::{COURSE_BEGIN, EVENTS_BEGIN, EVENTS_END};
 use crate::words::{attempt_sort, fate_words, kind_words};
-use ame_drawing::{Attempt, Done, Moment, Timeline, lane_up_to, lanes_up_to};
+use ame_drawing::{Done, DrawnAttempt, Moment, Timeline, lane_up_to, lanes_up_to};
 use ame_page::Page;
 use ame_protocol::Tried;
 use ame_term::NoMemory;
@@ -31,7 +31,7 @@ pub fn events_page_of(alloc: Global, timeline: &Timeline) -> Result<Vec<u8>, NoM
 pub fn course_events_of(alloc: Global, moments: &[Moment]) -> Result<Vec<u8>, NoMemory> {
     let mut page = Page::new(alloc);
     page.add(COURSE_BEGIN)?;
-    add_tracks(&mut page, "fragment", lanes_up_to(LAST_TRACK, moments))?;
+    add_tracks(&mut page, "task", lanes_up_to(LAST_TRACK, moments))?;
     for (index, moment) in moments.iter().enumerate() {
         match moment {
             Moment::Entry(done) => add_done(&mut page, index as u64, done)?,
@@ -55,10 +55,10 @@ fn add_tracks(page: &mut Page, word: &str, tracks: u32) -> Result<(), NoMemory> 
 }
 
 /// Appends an attempt. Its sort is the kind of the entry that it made, or `try`.
-fn add_attempt(page: &mut Page, attempt: &Attempt) -> Result<(), NoMemory> {
+fn add_attempt(page: &mut Page, attempt: &DrawnAttempt) -> Result<(), NoMemory> {
     let member = attempt.member;
     let start = u64::from(attempt.from);
-    write!(page, ",\n{{\"name\":\"fragment {member}\",\"cat\":\"")?;
+    write!(page, ",\n{{\"name\":\"task {member}\",\"cat\":\"")?;
     page.add(attempt_sort(attempt.entry))?;
     add_span(page, attempt.seat, start, length_of(attempt))?;
     if let Some(entry) = attempt.entry {
@@ -69,7 +69,7 @@ fn add_attempt(page: &mut Page, attempt: &Attempt) -> Result<(), NoMemory> {
 }
 
 /// Returns the number of picks that an attempt lasts.
-fn length_of(attempt: &Attempt) -> u64
+fn length_of(attempt: &DrawnAttempt) -> u64
     ensures { result ≡ attempt.now.to + 1 - attempt.now.from }
 {
     (u64::from(attempt.to) + 1).saturating_sub(u64::from(attempt.from))
@@ -83,7 +83,7 @@ fn add_done(page: &mut Page, number: u64, done: &Done) -> Result<(), NoMemory> {
     add_span(page, lane_up_to(LAST_TRACK, fragment), number, 1)?;
     write!(
         page,
-        "\"fragment\":{fragment},\"steps\":{steps},\"seat\":{seat},"
+        "\"task\":{fragment},\"steps\":{steps},\"seat\":{seat},"
     )?;
     end_event(page, kind_words(done.kind))
 }
@@ -93,7 +93,7 @@ fn add_lost(page: &mut Page, number: u64, lost: &Tried) -> Result<(), NoMemory> 
     let (at, fragment, steps) = (lost.at, lost.number, lost.steps);
     write!(page, ",\n{{\"name\":\"try behind {at}\",\"cat\":\"try")?;
     add_span(page, lane_up_to(LAST_TRACK, fragment), number, 1)?;
-    write!(page, "\"fragment\":{fragment},\"steps\":{steps},")?;
+    write!(page, "\"task\":{fragment},\"steps\":{steps},")?;
     end_event(page, "rolled back")
 }
 

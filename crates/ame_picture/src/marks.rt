@@ -1,17 +1,17 @@
 //! The marks of what a run did.
 
-use crate::layout::{Layout, Point, left_of, middle_of, top_of};
+use crate::layout::{Layout, Spot, left_of, middle_of, top_of};
 use crate::svg::Svg;
 use crate::words::{
     arrow_class, fate_class, fate_words, kind_class, outcome_class, outcome_words, sign_class,
     sign_word,
 };
-use ame_drawing::{Arrow, Attempt, Did, Pick, Span, Stamp};
+use ame_drawing::{Arrow, Did, DrawnAttempt, DrawnPick, Span, Stamp};
 use ame_term::NoMemory;
 
 impl Svg {
     /// Draws an attempt: a box from its first pick to its last, with the member's number in a field.
-    pub(crate) fn attempt(&mut self, attempt: &Attempt) -> Result<(), NoMemory> {
+    pub(crate) fn attempt(&mut self, attempt: &DrawnAttempt) -> Result<(), NoMemory> {
         let (member, from, to) = (attempt.member, attempt.from, attempt.to);
         let became = fate_words(attempt.fate);
         let x = left_of(from);
@@ -20,22 +20,22 @@ impl Svg {
         self.begin_group(member)?;
         writeln!(
             self.page,
-            "<title>fragment {member}, picks {from} to {to}: {became}</title>"
+            "<title>task {member}, picks {from} to {to}: {became}</title>"
         )?;
-        self.rect(fate_class(attempt.fate), Point(x + 1, y), width, 30)?;
-        self.rect("field", Point(x + 3, y + 3), 17, 13)?;
-        let number = Point(x + 5, y + 13);
+        self.rect(fate_class(attempt.fate), Spot(x + 1, y), width, 30)?;
+        self.rect("field", Spot(x + 3, y + 3), 17, 13)?;
+        let number = Spot(x + 5, y + 13);
         self.label("number", number, "", member)?;
         self.end_group()
     }
 
     /// Draws the sign of what a pick did, if it has one, with the location if there is one.
-    pub(crate) fn sign(&mut self, column: u32, pick: &Pick) -> Result<(), NoMemory> {
+    pub(crate) fn sign(&mut self, column: u32, pick: &DrawnPick) -> Result<(), NoMemory> {
         let Some(word) = sign_word(pick.did) else {
             return Ok(());
         };
         let class = sign_class(pick.did);
-        let at = Point(middle_of(column), top_of(pick.seat) + 27);
+        let at = Spot(middle_of(column), top_of(pick.seat) + 27);
         self.begin_group(pick.member)?;
         match pick.place {
             None => self.words(class, at, word.as_bytes())?,
@@ -54,16 +54,16 @@ impl Svg {
         let member = stamp.member;
         let x = middle_of(stamp.pick);
         let y = layout.journal_top();
-        let tied = Point(x, top_of(stamp.seat) + 30);
-        let corner = Point(left_of(stamp.pick) + 2, y);
+        let tied = Spot(x, top_of(stamp.seat) + 30);
+        let corner = Spot(left_of(stamp.pick) + 2, y);
         self.begin_group(member)?;
         write!(self.page, "<title>entry {number}: ")?;
         self.page.add(stamp.kind.word())?;
-        writeln!(self.page, ", fragment {member}</title>")?;
-        self.line("tie", tied, Point(x, y))?;
+        writeln!(self.page, ", task {member}</title>")?;
+        self.line("tie", tied, Spot(x, y))?;
         self.rect(kind_class(stamp.kind), corner, 18, 20)?;
-        self.label("entry", Point(x, y + 14), "", member)?;
-        self.label("below", Point(x, y + 31), "", number)?;
+        self.label("entry", Spot(x, y + 14), "", member)?;
+        self.label("below", Spot(x, y + 31), "", number)?;
         self.end_group()
     }
 
@@ -77,7 +77,7 @@ impl Svg {
         if printed.is_empty() {
             return Ok(());
         }
-        let at = Point(middle_of(column), layout.journal_top() + 46);
+        let at = Spot(middle_of(column), layout.journal_top() + 46);
         self.begin_words("print", at)?;
         for integer in printed {
             self.page.add_labelled(b" ", *integer)?;
@@ -89,12 +89,12 @@ impl Svg {
     pub(crate) fn span(&mut self, layout: Layout, span: &Span) -> Result<(), NoMemory> {
         let (place, member, from, to) = (span.place, span.member, span.from, span.to);
         let became = outcome_words(span.outcome);
-        let at = Point(middle_of(from), layout.place_top(place));
+        let at = Spot(middle_of(from), layout.place_top(place));
         let width = 22 * u64::from(to.saturating_sub(from));
         self.begin_group(member)?;
         writeln!(
             self.page,
-            "<title>location {place}, owned by fragment {member}, picks {from} to {to}: {became}</title>"
+            "<title>location {place}, owned by task {member}, picks {from} to {to}: {became}</title>"
         )?;
         self.rect(outcome_class(span.outcome), at, width, 12)?;
         self.end_group()
@@ -102,11 +102,11 @@ impl Svg {
 
     /// Draws an arrow from the right edge of a box to the left edge of another, so far below their upper edges.
     pub(crate) fn edge(&mut self, below: u8, arrow: &Arrow) -> Result<(), NoMemory> {
-        let at = Point(
+        let at = Spot(
             left_of(arrow.from) + 21,
             top_of(arrow.from_seat) + u64::from(below),
         );
-        let to = Point(
+        let to = Spot(
             left_of(arrow.to) + 1,
             top_of(arrow.to_seat) + u64::from(below),
         );
@@ -115,8 +115,8 @@ impl Svg {
 
     /// Draws an arrow from the middle of a pick to that of another.
     pub(crate) fn obstacle(&mut self, arrow: &Arrow) -> Result<(), NoMemory> {
-        let at = Point(middle_of(arrow.from), top_of(arrow.from_seat) + 17);
-        let to = Point(middle_of(arrow.to), top_of(arrow.to_seat) + 17);
+        let at = Spot(middle_of(arrow.from), top_of(arrow.from_seat) + 17);
+        let to = Spot(middle_of(arrow.to), top_of(arrow.to_seat) + 17);
         self.member_line(arrow.member, arrow_class(arrow.kind), at, to)
     }
 
@@ -125,7 +125,7 @@ impl Svg {
         &mut self,
         layout: Layout,
         column: u32,
-        pick: &Pick,
+        pick: &DrawnPick,
     ) -> Result<(), NoMemory> {
         let (Did::FoundInvalid, Some(place)) = (pick.did, pick.place) else {
             return Ok(());
@@ -134,8 +134,8 @@ impl Svg {
             return Ok(());
         }
         let x = middle_of(column);
-        let at = Point(x, top_of(pick.seat) + 31);
-        let to = Point(x, layout.place_top(place));
+        let at = Spot(x, top_of(pick.seat) + 31);
+        let to = Spot(x, layout.place_top(place));
         self.member_line(pick.member, "stale", at, to)
     }
 }

@@ -4,7 +4,7 @@ ghost use Rattle.std.specs.Prelude.{◌≡◌, MatchOption, codes};
 ghost use Rattle.ame_journal.specs.Kinds.{kind_word};
 ghost use Rattle.ame_drawing.specs.Lanes.{kind_shown};
 
-use ame_drawing::{ArrowKind, Did, Entered, Fate, Outcome};
+use ame_drawing::{ArrowKind, Did, Entered, Fate, SpanEnd};
 use ame_journal::EntryKind;
 
 /// Returns how the box of an attempt looks.
@@ -25,13 +25,13 @@ pub(crate) fn fate_class(fate: Fate) -> &'static str
 pub(crate) fn fate_words(fate: Fate) -> &'static str {
     match fate {
         Fate::UnderWay => "the run was over before it was",
-        Fate::Ended => "committed, and the fragment ended",
-        Fate::Left => "committed, and the fragment left for unprotected code",
+        Fate::Ended => "committed, and the task ended",
+        Fate::Left => "committed, and the task entered unprotected code",
         Fate::Visited => "ran unprotected code",
         Fate::Failed => "a device failed",
         Fate::RolledBack => "rolled back",
-        Fate::Stuck => "taken back: a condition is false here",
-        Fate::Tall => "taken back: a value would be too high",
+        Fate::Stuck => "rolled back: condition false",
+        Fate::Tall => "rolled back: value nested too deeply",
         Fate::Cut => "cut off: the turns are used up",
     }
 }
@@ -63,29 +63,29 @@ pub(crate) fn kind_words(kind: EntryKind) -> &'static str {
     match kind {
         EntryKind::Ran => "ran",
         EntryKind::Free => "ran unprotected code",
-        EntryKind::Stuck => "taken back: a condition is false here",
+        EntryKind::Stuck => "rolled back: condition false",
         EntryKind::Cut => "cut off, and taken back",
-        EntryKind::Tall => "taken back: a value would be too high",
+        EntryKind::Tall => "rolled back: value nested too deeply",
     }
 }
 
 /// Returns how a span looks.
-pub(crate) fn outcome_class(outcome: Outcome) -> &'static str
-    ensures { result.now ≡ codes "ran" → outcome ≡ Outcome.Committed }
+pub(crate) fn outcome_class(outcome: SpanEnd) -> &'static str
+    ensures { result.now ≡ codes "ran" → outcome ≡ SpanEnd.Committed }
 {
     match outcome {
-        Outcome::Owned => "begun",
-        Outcome::Committed => "ran",
-        Outcome::Undone => "rolled",
+        SpanEnd::Owned => "begun",
+        SpanEnd::Committed => "ran",
+        SpanEnd::Undone => "rolled",
     }
 }
 
 /// Returns what became of what was written.
-pub(crate) fn outcome_words(outcome: Outcome) -> &'static str {
+pub(crate) fn outcome_words(outcome: SpanEnd) -> &'static str {
     match outcome {
-        Outcome::Owned => "the run was over before it was",
-        Outcome::Committed => "committed",
-        Outcome::Undone => "undone",
+        SpanEnd::Owned => "the run was over before it was",
+        SpanEnd::Committed => "committed",
+        SpanEnd::Undone => "undone",
     }
 }
 

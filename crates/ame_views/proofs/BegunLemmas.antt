@@ -1,4 +1,4 @@
--- Where fragments began, entry after entry.
+-- Beginnings of tasks, entry after entry.
 use Rattle.std.proofs.Common.{◌≡◌, ℕ, ◌+◌, ◌-◌, ◌<◌, ◌≤◌, ◌⊎◌, inl, inr, List, [], ◌∷◌, ◌++◌, length, get_or, take, Option, Some, None, IfSome, refl, sym, ap, ◌∙◌, subst, arith}
 use Rattle.std.specs.Prelude.{slice_get}
 use Rattle.std.proofs.lemmas.Bool.{cases_lt}
@@ -44,7 +44,7 @@ module _ (members : List (ℕ × Fragment)) (old : List (ℕ × NodeNo)) where
       by (inl before) = so_far i node before
       by (inr seen) = inr seen
 
--- a member begins where its fragment does
+-- a member begins at the beginning of its fragment
 pub seen-from : (members : List (ℕ × Fragment)) (number : ℕ) (fragment : Fragment) → at members number ≡ Some fragment → (o : Option NodeNo)
     → ((code : FlatCode) → IsFragmentOf code fragment → IfSome o (λ node. BeginsAt code (stage_of code fragment).term node.0)) → IfSome o (SeenBegun members number)
 seen-from members number fragment is None begins = tt
@@ -95,12 +95,12 @@ no-async code body form node there not here a =
     not (subst (λ (n : Node). async_body n.shape ≡ Some body.0) same a.is)
 
 module _ (code : FlatCode) (entries : List Entry) where
-  -- so many entries were made
+  -- a number of entries were made
   pub record Beginning (index : ℕ) (place : ReplayView Val Fragment) (begun : List (ℕ × NodeNo)) : Type 0 where
     pub stands : StandsForEntries fragment_meaning code (take index entries) place
     pub told : TellsBegun code entries begun
 
-  -- each fragment so far is told, or isn't seen
+  -- each task so far is noted, or isn't seen
   pub record AllSeen (index last : ℕ) (place : ReplayView Val Fragment) (begun : List (ℕ × NodeNo)) : Type 0 where
     pub enough : place.next ≤ last + 1
     pub all : TellsAllBegun code entries last begun
@@ -165,13 +165,13 @@ module _ (code : FlatCode) (entries : List Entry) where
   beginning-ends index place begun past so_far =
       subst (λ (es : List Entry). StandsForEntries fragment_meaning code es place) (take_all index entries past) so_far.stands
 
--- what isn't told can't be found
+-- a task that isn't noted can't be found
 pub hidden-form : (text : Text) (code : FlatCode) (entries : List Entry) (last : ℕ) (begun : List (ℕ × NodeNo)) (i : ℕ) → 1 ≤ i → i ≤ last → TellsBegun code entries begun
     → TellsAllBegun code entries last begun → HidesForm text code begun i → TellsForm text code entries i None
 hidden-form text code entries last begun i low high told all (inl none) = inl (all i low high none)
 hidden-form text code entries last begun i low high told all (inr (body, found, formless)) = inr (body, told i body found, formless)
 
--- by what is told of where fragments began
+-- by the noted beginnings
 pub tells-form : (text : Text) (code : FlatCode) (entries : List Entry) (last : ℕ) (begun : List (ℕ × NodeNo)) (i : ℕ) → 1 ≤ i → i ≤ last → TellsBegun code entries begun
     → TellsAllBegun code entries last begun → (o : Option Position)
     → IfSome o (λ there. (es : List Entry) → TellsBegun code es begun → IsStartedAt text code es i there) → (o ≡ None → HidesForm text code begun i)

@@ -1,4 +1,4 @@
--- The bounds that are shown beside counts hold.
+-- The bounds that are shown next to counts hold.
 use Rattle.std.proofs.Common.{◌≡◌, ℕ, zero, suc, ◌+◌, ◌*◌, ◌<◌, ◌≤◌, ◌==◌, List, [], ◌∷◌, ◌++◌, length, take, drop, cond}
 use Rattle.std.proofs.Common.{Some, option_and_then, sym, ap, ◌∙◌, arith}
 use Rattle.std.specs.Prelude.{All, count_by, nat_lt}

@@ -1,4 +1,4 @@
--- Which entry has a fault where a replay comes to no end.
+-- The entry that can't be made when a replay comes to no end.
 use Rattle.std.proofs.Common.{◌≡◌, ℕ, List, inl, inr, subst}
 use Rattle.ame_term.specs.Tree.{Tree}
 use Rattle.ame_journal.specs.declared.entry.Entry.{Entry}

@@ -27,7 +27,7 @@ entries-more told starters new s i below so_far added is =
     ∙ ap (λ (es : List ℕ). es ++ s.entry ∷ []) so_far ∙ ap (λ (n : ℕ). take i told ++ n ∷ []) is ∙ sym (take_more told i 0 below)
 
 module _ (P : ℕ → Option Position → Type 0) where
-  -- so it is of the forms that are told, from fragment 1 on
+  -- the same for all noted forms, from task 1 on
   abbrev pub AreForms : List Starter → Type 0
   AreForms starters = (k : ℕ) (s : Starter) → slice_get starters k ≡ Some s → P (k + 1) s.form
 

@@ -14,7 +14,7 @@ use Rattle.std.specs.List.Sorted.{IsNonDecreasingBy, IsPartitionPoint}
 use Rattle.ame_why.specs.Position.{is_feed, is_within_line}
 use Rattle.ame_views.specs.LineIndex.{feeds_before}
 
--- the line feeds before the next place, where the byte between is one, or isn't
+-- the line feeds before the next place, if the byte between is one, or isn't
 feeds-feed : (text : List ℕ) (n : ℕ) → is_feed (get_or text n 0) ≡ true → feeds_before text (n + 1) ≡ feeds_before text n ++ n ∷ []
 feeds-feed text n e = rw add-one (ap (λ (b : Bool). feeds_before text n ++ (if b then n ∷ [] else [])) e)
 
@@ -104,7 +104,7 @@ feeds-first text place =
         subst (λ (fs : List ℕ). StandFirst fs place feeds) (sym (ap (feeds_before text) same ∙ is)) (stand-alone feeds place)
     next n feeds is earlier (inr below) = earlier (omega arith)
 
--- so a point that parts all by the place stands behind them
+-- so a point that parts all by the place comes after them
 point-is : (feeds all : List ℕ) (place i : ℕ) → StandFirst feeds place all → AreBelow place feeds → i ≤ length all
     → IsPartitionPoint (λ f. nat_lt f place ≡ true) (λ f. nat_lt f place ≡ false) all i → i ≡ length feeds
 point-is feeds all place i first below within point =
@@ -132,7 +132,7 @@ feeds-point text place i within inside point =
     point-is (feeds_before text place) _ place i (feeds-first text place (length text) (omega arith) within) (feeds-below text place within) inside point
     ∙ length-feeds text place within
 
--- the first place behind the last of some line feeds
+-- the first place after the last of some line feeds
 record StartsAt (start : ℕ) (feeds : List ℕ) : Type 0 where
   none : length feeds ≡ 0 → start ≡ 0
   some : 0 < length feeds → start ≡ get_or feeds (length feeds - 1) 0 + 1
@@ -187,7 +187,7 @@ line-start text n start within none some =
     let fits : suffix_len is_within_line (take n text) ≤ length (take n text) = suffix_len-le-length is_within_line (take n text) in
     omega arith
 
--- the same by how many line feeds there are before the place, where there are none
+-- the same by the number of line feeds before the place, if there are none
 pub first-line : (text : List ℕ) (place feeds : ℕ) → place ≤ length text → feeds ≡ count_by is_feed (take place text) → feeds ≡ 0
     → length (after_last is_feed (take place text)) ≡ place
 first-line text place feeds within counted none =
@@ -195,7 +195,7 @@ first-line text place feeds within counted none =
     let whole : 0 + length (after_last is_feed (take place text)) ≡ place = line-start text place 0 within (λ e. refl) (λ some. absurd (omega arith)) in
     omega arith
 
--- and where there are some, the last of which is among all
+-- and if there are some: the last of them is among all
 module _ (text items : List ℕ) (place feeds : ℕ) (within : place ≤ length text) (listed : items ≡ feeds_before text (length text))
     (counted : feeds ≡ count_by is_feed (take place text)) (some : feeds ≡ 0 → ⊥)
   where

@@ -6,7 +6,7 @@ use Rattle.ame_journal.specs.Replayed.{Replayed}
 use Rattle.ame_journal.specs.Replay.{replay_entry}
 use Rattle.ame_views.specs.Lines.{and_those_behind, lines_from, Prints}
 
--- the line of the first entry, and those of the others where it leads
+-- the line of the first entry, and those of the others after it
 pub line_comes_first : (r t : Replayed) (entry : Entry) (line : List ℤ) (entries : List Entry) → Prints r entry line t →
     lines_from r (entry ∷ entries) ≡ line ∷ lines_from t entries
 unfolding lines_from
@@ -16,7 +16,7 @@ line_comes_first r t entry _ entries (Prints.made _ _ _ other e) =
     ap (λ b. if b then [] ∷ lines_from r entries else and_those_behind (λ u. lines_from u entries) r (replay_entry r entry)) other
     ∙ ap (λ o. and_those_behind (λ u. lines_from u entries) r o) e
 
--- lines that are told, and those that are left
+-- lines that are done, and those that are left
 pub lines_go_on : (told whole : List (List ℤ)) (r t : Replayed) (entries : List Entry) (i : ℕ) (entry : Entry) (line : List ℤ) → i < length entries →
     told ++ lines_from r (drop i entries) ≡ whole → Prints r (get_or entries i entry) line t →
     (told ++ line ∷ []) ++ lines_from t (drop (i + 1) entries) ≡ whole

@@ -24,7 +24,7 @@ leads-prints r t entry e true is =
 leads-prints r t entry e false is = Prints.made r t entry is e
 
 module _ {C V M : Type 0} (meaning : Meaning C V M) (code : C) (entries : List Entry) where
-  -- so many entries were made on machines, and these are their lines
+  -- a number of entries were made on machines, and these are their lines
   pub record Printing (index : ℕ) (told : List (List ℤ)) (place : ReplayView V M) : Type 0 where
     pub stands : StandsForEntries meaning code (take index entries) place
     pub left : (r : Replayed) → replay (meaning.program code) (take index entries) ≡ Some r →

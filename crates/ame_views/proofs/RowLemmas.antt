@@ -29,7 +29,7 @@ rows_go_on started told whole page noted new entries tries rest i entry starter 
     ∙ append_assoc page (tried_rows (i + 1) tries started) (row ++ more)
     ∙ sym (ap (λ es. page ++ rows (i + 1) es tries started told) (drop_more entries i entry inside)) ∙ left
 
--- behind the last entry
+-- after the last entry
 pub rows_end : (started : ℕ → Option Starter) (told : ℕ → List ℤ) (whole page new : List ℕ) (entries : List Entry) (tries : List Tried) (i : ℕ) → length entries ≡ i
     → page ++ rows (i + 1) (drop i entries) tries started told ≡ whole → new ≡ page ++ tried_rows (length entries + 1) tries started → new ≡ whole
 unfolding rows

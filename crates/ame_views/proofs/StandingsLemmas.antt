@@ -11,7 +11,7 @@ use Rattle.ame_check.specs.Entries.{is_confirmed}
 use Rattle.ame_check.specs.Shows.{ReplayView, StandsForEntries}
 use Rattle.ame_check.specs.Standing.{StandsAt}
 use Rattle.ame_check.specs.declared.stored.Stored.{Stored}
-use Rattle.ame_protocol.specs.declared.certificate.Certificate.{Certificate}
+use Rattle.ame_journal.specs.declared.certificate.Certificate.{Certificate}
 use Rattle.ame_code.specs.FlatCode.{FlatCode}
 use Rattle.ame_value.specs.declared.val.Val.{Val}
 use Rattle.ame_eval.specs.Fragments.{stage_of, IsFragmentOf}
@@ -37,6 +37,7 @@ stands-as code entries note kind fragment want reads st = record {
   member = st.member;
   wants = st.wants;
   told = st.told;
+  each = st.each;
 }
 
 module _ (text : Text) (code : FlatCode) (entries : List Entry) where

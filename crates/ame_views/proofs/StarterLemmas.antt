@@ -13,7 +13,7 @@ use Rattle.ame_machine.specs.Meaning.{Meaning}
 use Rattle.ame_check.specs.Shows.{ReplayView, StandsForEntries}
 use Rattle.ame_views.specs.Starters.{started_by, starter_from, starter_of, starter_in, with_starter}
 
--- an entry that leads to where the fragment is, and one that doesn't
+-- an entry that leads to a state with the task, and one that doesn't
 starts-here : (n : ℕ) (r t : Replayed) (fragment : ℕ) (entry : Entry) (entries : List Entry) → replay_entry r entry ≡ Some t → fragment < t.state.next →
     starter_from n r fragment (entry ∷ entries) ≡ Some n
 unfolding starter_from
@@ -70,7 +70,7 @@ module _ {C V M : Type 0} (meaning : Meaning C V M) (code : C) (entries : List E
   abbrev starter : ℕ → Option ℕ
   starter k = starter_from 1 (begun_at (meaning.program code)) (k + 1) entries
 
-  -- so many entries were made on machines, and these are the starters of fragments so far; those of others are to come
+  -- a number of entries were made on machines, and these are the starters of tasks so far; those of others are to come
   pub record Starting (index : ℕ) (starters : List ℕ) (place : ReplayView V M) : Type 0 where
     pub stands : StandsForEntries meaning code (take index entries) place
     pub known : (k : ℕ) → k < length starters → starter k ≡ slice_get starters k
@@ -91,7 +91,7 @@ module _ {C V M : Type 0} (meaning : Meaning C V M) (code : C) (entries : List E
       sym (ap (λ o. option_and_then (λ r. replay_entry r entry) o) s.replayed)
       ∙ sym (replay_from-one (begun_at (meaning.program code)) before entry) ∙ t.replayed
 
-  -- the starter of a fragment, behind that entry
+  -- the starter of a task, after that entry
   known-then : (n next : ℕ) (starters new : List ℕ) (r t : Replayed) (entry : Entry) (rest : List Entry) → replay_entry r entry ≡ Some t →
       next ≡ t.state.next → new ≡ with_starter n next starters → (k : ℕ) → k < length new →
       (k < length starters → starter k ≡ slice_get starters k) → (length starters ≤ k → starter k ≡ starter_from n r (k + 1) (entry ∷ rest)) →
@@ -138,7 +138,7 @@ module _ {C V M : Type 0} (meaning : Meaning C V M) (code : C) (entries : List E
             ∙ ap (λ u. starter_from (index + 1 + 1) u (k + 1) (drop (index + 1) entries)) same;
       }
 
-  -- behind all entries
+  -- after all entries
   starter-is : (index : ℕ) (starters : List ℕ) (place : ReplayView V M) → length entries ≤ index → Starting index starters place → (k : ℕ) →
       (k < length starters) ⊎ (length starters ≤ k) → slice_get starters k ≡ starter k
   starter-is index starters place over all k (inl below) = sym (all.known k below)

@@ -9,7 +9,7 @@ use Rattle.ame_value.specs.declared.val.PairVal.{PairVal}
 use Rattle.ame_value.specs.FlatValue.{FlatValue, first_part, second_part}
 use Rattle.ame_value.specs.View.{pair_value}
 use Rattle.ame_why.specs.declared.position.Position.{Position}
-use Rattle.ame_views.specs.declared.forms.Made.{Made}
+use Rattle.ame_views.specs.declared.forms.Created.{Created}
 use Rattle.ame_views.specs.Stored.{stored_row, stored_rows}
 use Rattle.ame_views.specs.Trace.{made_from, made_there}
 
@@ -36,11 +36,11 @@ pub second_falls : (v w : FlatValue) (p : PairVal) → v ≡ pair_value p → w 
 second_falls v w p whole part = let all = ap parts whole in let one = ap parts part in omega (arith, all, one)
 
 -- the locations of cells so far, with the next one
-pub made-goes-on : (whole made new : List Made) (cells : List (Cell Val)) (i : ℕ) (cell : Cell Val) → slice_get cells i ≡ Some cell →
+pub made-goes-on : (whole made new : List Created) (cells : List (Cell Val)) (i : ℕ) (cell : Cell Val) → slice_get cells i ≡ Some cell →
     made ++ made_from i (drop i cells) ≡ whole → new ≡ made ++ made_there i cell → new ++ made_from (i + 1) (drop (i + 1) cells) ≡ whole
 unfolding made_from
 made-goes-on whole made new cells i cell is left added =
     let rest = made_from (i + 1) (drop (i + 1) cells) in
     let next : drop i cells ≡ cell ∷ drop (i + 1) cells =
     drop_more cells i cell (slice_get_within cells i cell is) ∙ ap (λ (x : Cell Val). x ∷ drop (i + 1) cells) (get_or_from_slice_get cells i cell cell is) in
-    ap (λ (t : List Made). t ++ rest) added ∙ append_assoc made (made_there i cell) rest ∙ sym (ap (λ (xs : List (Cell Val)). made ++ made_from i xs) next) ∙ left
+    ap (λ (t : List Created). t ++ rest) added ∙ append_assoc made (made_there i cell) rest ∙ sym (ap (λ (xs : List (Cell Val)). made ++ made_from i xs) next) ∙ left

@@ -1,4 +1,4 @@
--- Where fragments began.
+-- The beginnings of tasks.
 use Rattle.std.specs.Prelude.{◌≡◌, ◌⊎◌, ℕ, ◌+◌, ◌<◌, ◌≤◌, List, length, take, slice_get, Option, Some, None, option_and_then}
 use Rattle.ame_lex.specs.Bytes.{Text}
 use Rattle.ame_term.specs.Maps.{at}
@@ -52,7 +52,7 @@ NotesOne members i new = at new i ≡ None → beginning_in members i ≡ None
 abbrev pub NotesAll : ℕ → ℕ → List (ℕ × Fragment) → List (ℕ × NodeNo) → Type 0
 NotesAll first next members new = (i : ℕ) → first ≤ i → i < next → NotesOne members i new
 
--- Behind so many of the entries there is a fragment with this number, and its term is that of the node, with values for the names around it.
+-- After some of the entries there is a task with this number, and its term is that of the node, with values for the names around it.
 pub record BeganAt (code : FlatCode) (entries : List Entry) (i : ℕ) (node : NodeNo) : Type 0 where
   pub count : ℕ
   pub place : ReplayView Val Fragment
@@ -61,11 +61,11 @@ pub record BeganAt (code : FlatCode) (entries : List Entry) (i : ℕ) (node : No
   pub member : at place.members i ≡ Some fragment
   pub begins : BeginsAt code (stage_of code fragment).term node.0
 
--- so it is of each fragment that is told
+-- the same for each task that is noted
 abbrev pub TellsBegun : FlatCode → List Entry → List (ℕ × NodeNo) → Type 0
 TellsBegun code entries begun = (i : ℕ) (node : NodeNo) → at begun i ≡ Some node → BeganAt code entries i node
 
--- The entry behind so many of the entries is the first behind which there is a fragment with this number, and none there that hasn't begun to run.
+-- The next of the entries is the first one after which there is a task with this number, and none there that hasn't begun to run.
 pub record IsUnseen (code : FlatCode) (entries : List Entry) (i : ℕ) : Type 0 where
   pub count : ℕ
   pub before : ReplayView Val Fragment
@@ -76,13 +76,13 @@ pub record IsUnseen (code : FlatCode) (entries : List Entry) (i : ℕ) : Type 0 
   pub there : i < place.next
   pub none : beginning_in place.members i ≡ None
 
--- so it is of each fragment up to this one that isn't told
+-- the same for each task up to this one that isn't noted
 abbrev pub TellsAllBegun : FlatCode → List Entry → ℕ → List (ℕ × NodeNo) → Type 0
 TellsAllBegun code entries last begun = (i : ℕ) → 1 ≤ i → i ≤ last → at begun i ≡ None → IsUnseen code entries i
 
 -- the body of an `async` form
 abbrev pub async_body : Shape → Option ℕ
-async_body (shape.Async body) = Some body.0
+async_body (shape.Async body free) = Some body.0
 async_body _ = None
 
 -- a node is the `async` form with this body
@@ -114,11 +114,11 @@ abbrev pub IsFormless : Text → FlatCode → NodeNo → Type 0
 IsFormless text code body =
     (form : NodeNo) → form.0 ≡ body.0 + 1 → IsAsyncOf code body form → (place : ℕ) → node_place code form.0 ≡ Some place → length text < place
 
--- where a fragment began isn't known by these notes, or isn't in the text
+-- the beginning of a task isn't known by these notes, or isn't in the text
 abbrev pub HidesForm : Text → FlatCode → List (ℕ × NodeNo) → ℕ → Type 0
 HidesForm text code begun i = (at begun i ≡ None) ⊎ ((body : NodeNo) × (at begun i ≡ Some body) × IsFormless text code body)
 
--- a form that is told is the one that started the fragment; one that isn't told can't be found
+-- a form that is shown is the one that started the task; one that isn't shown can't be found
 abbrev pub TellsForm : Text → FlatCode → List Entry → ℕ → Option Position → Type 0
 TellsForm text code entries i None = IsUnseen code entries i ⊎ ((body : NodeNo) × BeganAt code entries i body × IsFormless text code body)
 TellsForm text code entries i (Some there) = IsStartedAt text code entries i there

@@ -1,4 +1,4 @@
--- Where the line feeds of a text are.
+-- The places of the line feeds of a text.
 use Rattle.std.specs.Prelude.{ℕ, zero, suc, List, [], ◌∷◌, ◌++◌, if◌then◌else◌, slice_index}
 use Rattle.ame_why.specs.Position.{is_feed}
 

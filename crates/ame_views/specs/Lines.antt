@@ -11,12 +11,12 @@ use Rattle.ame_journal.specs.Totals.{is_note}
 abbrev pub printed_between : State → State → List ℤ
 printed_between s t = drop (length s.output) t.output
 
--- of one entry, and then of the others where it leads
+-- for one entry, and then for the others after it
 abbrev pub and_those_behind : (Replayed → List (List ℤ)) → Replayed → Option Replayed → List (List ℤ)
 and_those_behind behind r None = []
 and_those_behind behind r (Some t) = printed_between r.state t.state ∷ behind t
 
--- the lines of each entry from here; a note prints none and changes nothing, and where an entry can't be made, it ends
+-- the lines of each entry from here; a note prints none and changes nothing, and an entry that can't be made ends them
 unfoldable pub lines_from : Replayed → List Entry → List (List ℤ)
 lines_from r [] = []
 lines_from r (entry ∷ entries) =

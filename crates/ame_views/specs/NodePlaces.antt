@@ -1,4 +1,4 @@
--- Where the forms of nodes are in a program's text.
+-- The places of the forms of nodes in a program's text.
 use Rattle.std.specs.Prelude.{◌≡◌, ℕ, ◌<◌, Option, Some, None, length, slice_get, option_and_then}
 use Rattle.ame_lex.specs.Bytes.{Text}
 use Rattle.ame_code.specs.FlatCode.{FlatCode}
@@ -27,7 +27,7 @@ abbrev pub StandsNowhere : Text → FlatCode → Fragment → Type 0
 StandsNowhere text code fragment =
     (node : NodeNo) → fragment_node fragment ≡ Some node → (place : ℕ) → node_place code node.0 ≡ Some place → length text < place
 
--- so it is of the position that is told, if one is
+-- the same for the position that is shown, if there is one
 abbrev pub ShowsPlace : Text → FlatCode → Fragment → Option Position → Type 0
 ShowsPlace text code fragment None = StandsNowhere text code fragment
 ShowsPlace text code fragment (Some there) = StandsThere text code fragment there

@@ -1,4 +1,4 @@
--- Where members stand behind the steps of notes, and what they read on the way.
+-- The places that members have come to after the steps of notes, and their reads on the way.
 use Rattle.std.specs.Prelude.{◌≡◌, ℕ, List, [], ◌∷◌, ◌++◌, true, Option, Some, None, IfSome, slice_get, codes, decimal}
 use Rattle.std.specs.List.{flat_map}
 use Rattle.ame_lex.specs.Bytes.{Text}
@@ -12,7 +12,7 @@ use Rattle.ame_check.specs.Entries.{is_confirmed}
 use Rattle.ame_check.specs.Shows.{ReplayView, StandsForEntries}
 use Rattle.ame_check.specs.Standing.{StandsAt}
 use Rattle.ame_check.specs.declared.stored.Stored.{Stored}
-use Rattle.ame_protocol.specs.declared.certificate.Certificate.{Certificate}
+use Rattle.ame_journal.specs.declared.certificate.Certificate.{Certificate}
 use Rattle.ame_code.specs.FlatCode.{FlatCode}
 use Rattle.ame_value.specs.View.{flat_value}
 use Rattle.ame_value.specs.declared.val.Val.{Val}
@@ -33,44 +33,50 @@ stuck_note c = record { kind = EntryKind.Stuck; seat = 0; number = c.number; ste
 
 -- a location, and the place of its `ref` form
 unfoldable pub made_words : List Position → ℕ → ℕ → List ℕ
-made_words forms l number = codes "  it read location " ++ decimal l ++ codes ", made at " ++ position_words (slice_get forms number)
+made_words forms l number = codes "  it read location " ++ decimal l ++ codes " (created at " ++ position_words (slice_get forms number)
 
 -- what it holds
 unfoldable pub holds_words : Val → List ℕ
-holds_words value = codes ", which holds " ++ held_words (flat_value value) ++ codes "\n"
+holds_words value = codes "), which now holds " ++ held_words (flat_value value) ++ codes "\n"
 
 -- the line of a location that a member read; nothing of one that the member made itself
 unfoldable pub held_line : List Position → ℕ → Option (Stored Val) → List ℕ
 held_line forms l None = []
 held_line forms l (Some cell) = made_words forms l cell.number.0 ++ holds_words cell.value
 
--- the same of what is told as read
+-- the same for a location that was read
 abbrev pub read_line : List Position → List (ℕ × Stored Val) → ℕ × ℕ → List ℕ
 read_line forms cells read = held_line forms read.0 (at cells read.0)
 
--- where the `async` form is that started a member, if that is known
+-- the place of the `async` form that started a member, if it is known
 abbrev pub start_words : Option Position → List ℕ
 start_words None = []
-start_words (Some started) = codes ", started at " ++ position_words (Some started) ++ codes ","
+start_words (Some started) = codes " (started at " ++ position_words (Some started) ++ codes ")"
 
--- a member, and where it was started
+-- a member, and the place that started it
 unfoldable pub member_words : ℕ → Option Position → List ℕ
-member_words number started = codes "fragment " ++ decimal number ++ start_words started
+member_words number started = codes "task " ++ decimal number ++ start_words started
 
 -- the place at which a member stands, if that is known
 abbrev pub place_words : Option Position → List ℕ
 place_words None = []
 place_words (Some there) = codes " at " ++ position_words (Some there)
 
--- what a note of a kind tells of its member there
-abbrev pub ending : EntryKind → List ℕ
-ending EntryKind.Stuck = codes ", where its condition is false\n"
-ending EntryKind.Tall = codes ", where a value would be too high\n"
-ending _ = codes ", where it was cut off\n"
+-- what a member does that has a note of this kind
+abbrev pub stance : EntryKind → List ℕ
+stance EntryKind.Stuck = codes " is blocked"
+stance EntryKind.Tall = codes " stops"
+stance _ = codes " was cut off"
 
--- where it stands after so many steps
+-- why it does
+abbrev pub ending : EntryKind → List ℕ
+ending EntryKind.Stuck = codes " steps: its condition is false\n"
+ending EntryKind.Tall = codes " steps: a value would be nested too deeply\n"
+ending _ = codes " steps: the run ended\n"
+
+-- what it does, its place, and after how many steps
 unfoldable pub stands_words : Entry → Option Position → List ℕ
-stands_words note there = codes " stands after " ++ decimal note.steps ++ codes " steps" ++ place_words there ++ ending note.kind
+stands_words note there = stance note.kind ++ place_words there ++ codes " after " ++ decimal note.steps ++ ending note.kind
 
 -- the line of a note
 unfoldable pub standing_line : Entry → Option Position → Option Position → List ℕ
@@ -80,8 +86,8 @@ standing_line note started there = member_words note.number started ++ stands_wo
 abbrev pub note_lines : List Position → List (ℕ × Stored Val) → Entry → Option Position → Option Position → List (ℕ × ℕ) → List ℕ
 note_lines forms cells note started there reads = standing_line note started there ++ flat_map (read_line forms cells) reads
 
--- Behind the entries the steps of a note lead its member to a machine that wants this, and read these locations; and the form at which that
--- stands is at the position that is told.
+-- After the entries the steps of a note lead its member to a machine that wants this, and read these locations; and the form that the machine has
+-- come to is at this position.
 pub record LeadsNoteTo (text : Text) (code : FlatCode) (entries : List Entry) (note : Entry)
     (want : Wants) (reads : List (ℕ × ℕ)) (there : Option Position) : Type 0 where
   pub fragment : Fragment
@@ -89,7 +95,7 @@ pub record LeadsNoteTo (text : Text) (code : FlatCode) (entries : List Entry) (n
   pub form : StandsAtForm code (Some want) (fragment_node fragment)
   pub shown : ShowsPlace text code fragment there
 
--- The lines of a note: its member comes to what is told, and began as the body of the `async` form that is told; the locations that are told
+-- The lines of a note: its member comes to this place, it began as the body of this `async` form, and these locations
 -- were read on the way.
 pub record TellsNote (text : Text) (code : FlatCode) (entries : List Entry) (cells : List (ℕ × Stored Val)) (note : Entry)
     (want : Wants) (there : Option Position) (part : List ℕ) : Type 0 where
@@ -99,7 +105,7 @@ pub record TellsNote (text : Text) (code : FlatCode) (entries : List Entry) (cel
   pub starts : IfSome started (IsStartedAt text code entries note.number)
   pub is : part ≡ note_lines (positions text (tokens_or_none (tokens_of text))) cells note started there reads
 
--- The lines of a certificate: its member comes to a `blockUntil` form whose condition is false, and the place of that is told.
+-- The lines of a certificate: its member comes to a `blockUntil` form whose condition is false, at this place.
 pub record TellsStanding (text : Text) (code : FlatCode) (entries : List Entry) (cells : List (ℕ × Stored Val)) (c : Certificate) (part : List ℕ) : Type 0 where
   pub there : Position
   pub told : TellsNote text code entries cells (stuck_note c) wants.Block (Some there) part
@@ -110,13 +116,13 @@ pub data TellEach (text : Text) (code : FlatCode) (entries : List Entry) (cells 
   more : (done : List Certificate) (page : List ℕ) (c : Certificate) (part : List ℕ) → TellEach text code entries cells done page
       → TellsStanding text code entries cells c part → TellEach text code entries cells (done ++ c ∷ []) (page ++ part)
 
--- The same, with what the locations hold behind the entries.
+-- The lines of all certificates, with the values of the locations after the entries.
 pub record TellStandings (text : Text) (code : FlatCode) (entries : List Entry) (certificates : List Certificate) (page : List ℕ) : Type 0 where
   pub place : ReplayView Val Fragment
   pub stands : StandsForEntries fragment_meaning code entries place
   pub told : TellEach text code entries place.cells certificates page
 
--- The lines of the note with which a run ends, with what the locations hold behind the entries: its member comes to what the note tells.
+-- The lines of the note with which a run ends, with the values of the locations after the entries: its member comes to what the note says.
 pub record TellsHalted (text : Text) (code : FlatCode) (entries : List Entry) (note : Entry) (page : List ℕ) : Type 0 where
   pub place : ReplayView Val Fragment
   pub stands : StandsForEntries fragment_meaning code entries place

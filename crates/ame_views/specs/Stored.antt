@@ -1,4 +1,4 @@
--- What the locations hold that are left.
+-- The values of the locations that are left.
 use Rattle.std.specs.Prelude.{◌≡◌, ℕ, ◌+◌, List, [], ◌∷◌, ◌++◌, Bool, true, false, ◌||◌, if◌then◌else◌, Option, Some, None}
 use Rattle.std.specs.Prelude.{codes, slice_get}
 use Rattle.ame_term.specs.Tree.{Tree}
@@ -13,7 +13,7 @@ use Rattle.ame_value.specs.declared.val.Val.{Val}
 use Rattle.ame_print.specs.Tokens.{term_text}
 use Rattle.ame_why.specs.declared.position.Position.{Position}
 use Rattle.ame_why.specs.Position.{position_words}
-use Rattle.ame_why.specs.Page.{column, padded}
+use Rattle.ame_page.specs.Columns.{column, padded}
 
 -- whether a function is in a value
 abbrev pub has_function : FlatValue → Bool
@@ -21,7 +21,7 @@ has_function (FlatValue.Function function captured height) = true
 has_function (FlatValue.Pair first second height) = has_function first || has_function second
 has_function _ = false
 
--- no value where a function is in it, and else the one for which it stands, whatever the program is
+-- no value if a function is in it, and otherwise the one for which it stands, whatever the program is
 abbrev pub IsFirstOrder : FlatValue → Option Value → Type 0
 IsFirstOrder v None = has_function v ≡ true
 IsFirstOrder v (Some value) = (has_function v ≡ false) × (val_of value ≡ meant [] v)
@@ -38,7 +38,7 @@ sort_column Sort.Unprotected = codes " u     "
 unfoldable pub origin_words : List Position → ℕ → Cell Val → List ℕ
 origin_words places l cell = column 8 l ++ sort_column cell.sort ++ padded 10 (position_words (slice_get places cell.ty.0))
 
--- the row of a location: nothing where it isn't live
+-- the row of a location: nothing if it isn't live
 unfoldable pub stored_row : List Position → ℕ → Cell Val → List ℕ
 stored_row places l cell = if cell.live then origin_words places l cell ++ held_words (flat_value cell.value) ++ codes "\n" else []
 

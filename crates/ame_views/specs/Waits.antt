@@ -1,7 +1,7 @@
--- Who waits, where all that is left is blocked.
+-- The members that wait when all that are left are blocked.
 use Rattle.std.specs.Prelude.{ℕ, List, ◌++◌, codes, decimal}
-use Rattle.ame_protocol.specs.declared.certificate.Certificate.{Certificate}
+use Rattle.ame_journal.specs.declared.certificate.Certificate.{Certificate}
 
 -- the member, and the steps after which its condition is false
 unfoldable pub wait_line : Certificate → List ℕ
-wait_line c = codes "fragment " ++ decimal c.number ++ codes ": after " ++ decimal c.steps ++ codes " steps its condition is false\n"
+wait_line c = codes "task " ++ decimal c.number ++ codes ": its condition is false after " ++ decimal c.steps ++ codes " steps\n"

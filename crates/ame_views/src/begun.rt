@@ -1,4 +1,4 @@
-//! Where fragments began, and behind which entries.
+//! The entries after which tasks began, and the forms that started them.
 
 ghost use Rattle.std.specs.Prelude.{◌≡◌, ◌++◌, ◌∷◌, [], ℕ, List, IfErr, IfNone, IfOk, IfSome, OnOk, None, ◌+◌, drop, length, map};
 ghost use Rattle.ame_journal.specs.declared.entry.Entry.{Entry};
@@ -18,7 +18,7 @@ ghost use Rattle.ame_views.specs.Starters.{starter_in, starter_of, with_starter}
 
 use crate::line_index::LineIndex;
 use crate::node_places::{node_place, position_in};
-use ame_check::{Halt, Made, Replay};
+use ame_check::{Halt, Replay};
 use ame_code::{Code, Node, NodeNo, Shape};
 use ame_eval::Fragment;
 use ame_journal::Entry;
@@ -56,15 +56,12 @@ pub(crate) fn led_by(alloc: Global, code: &Code, entries: &[Entry]) -> Result<Le
         let first = replay.next;
         let printed = replay.output.as_slice().len();
         let number = index as u64 + 1;
-        match replay.make(alloc, code, entry)? {
-            Made::Made => {
-                note_begun(&mut begun, &replay, first)?;
-                note_started(&mut starters, replay.next, number)?;
-                note_lines(&mut lines, replay.output.as_slice(), printed)?;
-            }
-            Made::Undefined(why) => return Err(Halt::Undefined(number, why)),
-            Made::Tall => return Err(Halt::Tall(number)),
+        if let Err(error) = replay.make(alloc, code, entry) {
+            return Err(error.at(number));
         }
+        note_begun(&mut begun, &replay, first)?;
+        note_started(&mut starters, replay.next, number)?;
+        note_lines(&mut lines, replay.output.as_slice(), printed)?;
     }
     Ok(Led {
         replay,
@@ -93,7 +90,7 @@ pub(crate) fn led_if_run(
     }
 }
 
-/// Adds the integers after the first `known`.
+/// Appends the integers after the first `known`.
 fn note_lines(lines: &mut Vec<Vec<i64>>, printed: &[i64], known: usize) -> Result<(), NoMemory>
     ensures { OnOk result (map (λ v. v.items) lines.new.items ≡ map (λ v. v.items) lines.old.items ++ drop known printed.now ∷ []) }
 {
@@ -113,7 +110,7 @@ fn behind(printed: &[i64], count: usize) -> &[i64]
     }
 }
 
-/// Adds an entry for each fragment below a number that has none.
+/// Appends an entry for each fragment below a number that has none.
 fn note_started(starters: &mut Vec<u64>, next: u64, number: u64) -> Result<(), NoMemory>
     ensures { OnOk result (starters.new.items ≡ with_starter number next starters.old.items) }
 {
@@ -124,7 +121,7 @@ fn note_started(starters: &mut Vec<u64>, next: u64, number: u64) -> Result<(), N
     Ok(())
 }
 
-/// Notes where the fragments begin that have the numbers from this one on.
+/// Notes the beginnings of the tasks that have the numbers from this one on.
 fn note_begun(
     begun: &mut BTreeMap<u64, NodeNo>,
     replay: &Replay<Fragment>,
@@ -140,7 +137,7 @@ fn note_begun(
     Ok(())
 }
 
-/// Notes where one of them begins, if that is seen.
+/// Notes the beginning of one of them, if it is seen.
 fn note_one(
     begun: &mut BTreeMap<u64, NodeNo>,
     replay: &Replay<Fragment>,
@@ -181,17 +178,17 @@ fn start_of(fragment: &Fragment) -> Option<NodeNo>
     }
 }
 
-/// The body of an `async` form.
+/// Returns the body of an `async` form.
 fn async_body(node: &Node) -> Option<u32>
     ensures { result ≡ spec.async_body node.now.shape }
 {
     match &node.shape {
-        Shape::Async(body) => Some(body.0),
+        Shape::Async(body, _) => Some(body.0),
         _ => None,
     }
 }
 
-/// The `async` form with this body, which is behind it.
+/// Returns the `async` form with this body. The form comes after its body.
 fn async_of(code: &Code, body: NodeNo) -> Option<NodeNo>
     ensures form { IfSome result (λ form. spec.IsAsyncOf code.now body form × (form.0 ≡ body.0 + 1)) }
     ensures none { result ≡ None → (form : NodeNo) → form.0 ≡ body.0 + 1 → spec.IsAsyncOf code.now body form → ⊥ }
@@ -210,7 +207,7 @@ fn async_of(code: &Code, body: NodeNo) -> Option<NodeNo>
     Some(form)
 }
 
-/// Where the `async` form is that started a fragment, if that is known.
+/// Returns the place of the `async` form that started a task, if it is known.
 pub(crate) fn started_position(
     lines: &LineIndex,
     code: &Code,
@@ -227,7 +224,7 @@ pub(crate) fn started_position(
     form_position(lines, code, numbers, body)
 }
 
-/// Returns where the `async` form with this body is.
+/// Returns the place of the `async` form with this body.
 fn form_position(lines: &LineIndex, code: &Code, numbers: &[u32], body: NodeNo) -> Option<Position>
     requires { numbers.now ≡ read_numbers 0 (program_of code.now) }
     ensures there { IfSome result (spec.IsFormAt lines.now.text.now code.now body) }

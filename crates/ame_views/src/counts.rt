@@ -1,4 +1,4 @@
-//! What a run counted, beside what bounds it.
+//! The counts of a run, next to their bounds.
 
 ghost use Rattle.std.specs.Prelude.{◌≡◌, ◌++◌, ◌+◌, ◌≤◌, ℕ, IfOk, OnOk, Some, codes, decimal, length};
 ghost use Rattle.ame_term.specs.Tree.{Tree};
@@ -12,13 +12,13 @@ ghost use Rattle.ame_views.specs.Counts.{count_row, bounded_row, bound_words, mo
 use crate::replayed::ReplayedRun;
 use ame_engine::{Counters, Ended, Stop};
 use ame_journal::Entry;
+use ame_page::Page;
 use ame_protocol::{Limits, Tried};
 use ame_term::NoMemory;
-use ame_why::page::{append, append_column, append_decimal};
 use std::alloc::Global;
 
-/// What a run counted: its entries, the fragments that there ever were, its turns by their kinds, and beside their bounds the answers that
-/// turned a fragment back, the tries that left no entry, and the turns, where these are used up. A sum past 2^64 - 1 is told as want of
+/// Returns the counts of a run: its entries, its tasks, and its turns by their kinds; then, next to their bounds, the answers that rolled a
+/// fragment back, the attempts that left no entry, and the turns, if these are used up. A sum past 2^64 - 1 counts as out of
 /// memory.
 pub fn counts_of<V>(alloc: Global, ended: &Ended<V>, run: &ReplayedRun) -> Result<Vec<u8>, NoMemory>
     ensures text { IfOk result (λ page. page.items ≡ spec.counts ended.now run.now.fragments ended.now.limits) }
@@ -31,7 +31,7 @@ pub fn counts_of<V>(alloc: Global, ended: &Ended<V>, run: &ReplayedRun) -> Resul
 {
     let fragments = run.fragments;
     let limits = *ended.limits();
-    let mut page = Vec::new(alloc);
+    let mut page = Page::new(alloc);
     append_first(
         &mut page,
         ended.journal().len() as u64,
@@ -41,11 +41,11 @@ pub fn counts_of<V>(alloc: Global, ended: &Ended<V>, run: &ReplayedRun) -> Resul
     append_turns(&mut page, ended.counters())?;
     append_turn(&mut page, ended.counters().invalids, b"invalid reads")?;
     append_all_bounded(&mut page, ended, fragments, limits)?;
-    Ok(page)
+    Ok(page.into_bytes())
 }
 
-/// What a weak run counted: its entries and how many tries are among them, the fragments that there ever were, and its turns beside what its
-/// entries pay. A sum past 2^64 - 1 is told as want of memory.
+/// Returns the counts of a weak run: its entries and how many attempts are among them, its tasks, and its turns next to what its entries pay.
+/// A sum past 2^64 - 1 counts as out of memory.
 pub fn weak_counts_of(
     alloc: Global,
     turns: u32,
@@ -54,76 +54,71 @@ pub fn weak_counts_of(
 ) -> Result<Vec<u8>, NoMemory>
     ensures { IfOk result (λ page. page.items ≡ spec.weak_counts turns entries.now run.now.fragments) }
 {
-    let mut page = Vec::new(alloc);
+    let mut page = Page::new(alloc);
     append_count(&mut page, entries.len() as u64, b"entries, of these")?;
     append_count(
         &mut page,
         note_count(entries),
-        b"  tries that were taken back",
+        b"  attempts that were rolled back",
     )?;
-    append_count(&mut page, run.fragments, b"fragments")?;
+    append_count(&mut page, run.fragments, b"tasks")?;
     append_weak_turns(&mut page, turns, paid_by_entries(entries)?)?;
-    Ok(page)
+    Ok(page.into_bytes())
 }
 
-/// Adds the turns of a weak run beside what its entries pay.
+/// Appends the turns of a weak run next to what its entries pay.
 #[tactic(auto, unfolding(crate::specs::Counts::weak_turn_row))]
-fn append_weak_turns(page: &mut Vec<u8>, turns: u32, paid: u64) -> Result<(), NoMemory>
-    ensures { OnOk result (page.new.items ≡ page.old.items ++ spec.weak_turn_row turns paid) }
+fn append_weak_turns(page: &mut Page, turns: u32, paid: u64) -> Result<(), NoMemory>
+    ensures { OnOk result (page.new ≡ page.old ++ spec.weak_turn_row turns paid) }
 {
     let most = paid.checked_mul(3).ok_or(NoMemory)?;
-    let mut words = Vec::new(*page.allocator());
-    append(&mut words, b"3 * ")?;
-    append_decimal(&mut words, paid)?;
-    append_bounded(page, u64::from(turns), b"turns", &words, most)
+    let mut words = Page::new(page.allocator());
+    words.add(b"3 * ")?;
+    words.add_number(paid)?;
+    append_bounded(page, u64::from(turns), b"turns", words.as_slice(), most)
 }
 
-/// How many entries are notes.
+/// Returns how many entries are notes.
 fn note_count(entries: &[Entry]) -> u64
     ensures { result ≡ spec.note_count entries.now }
 {
     entries.iter().filter(|entry| entry.kind.is_note()).count() as u64
 }
 
-/// Adds a count, and what was counted.
+/// Appends a count, and what was counted.
 #[tactic(auto, unfolding(crate::specs::Counts::count_row))]
-fn append_count(page: &mut Vec<u8>, count: u64, what: &[u8]) -> Result<(), NoMemory>
-    ensures { OnOk result (page.new.items ≡ page.old.items ++ count_row count what.now) }
+fn append_count(page: &mut Page, count: u64, what: &[u8]) -> Result<(), NoMemory>
+    ensures { OnOk result (page.new ≡ page.old ++ count_row count what.now) }
 {
-    append_column(page, 9, count)?;
-    append(page, what)?;
-    append(page, b"\n")
+    page.add_column(9, count)?;
+    page.add(what)?;
+    page.add(b"\n")
 }
 
-/// Adds how many entries, fragments and turns there are.
+/// Appends how many entries, fragments and turns there are.
 #[tactic(auto, unfolding(crate::specs::Counts::first_rows))]
-fn append_first(
-    page: &mut Vec<u8>,
-    entries: u64,
-    fragments: u64,
-    turns: u32,
-) -> Result<(), NoMemory>
-    ensures { OnOk result (page.new.items ≡ page.old.items ++ spec.first_rows entries fragments turns) }
+fn append_first(page: &mut Page, entries: u64, fragments: u64, turns: u32) -> Result<(), NoMemory>
+    ensures { OnOk result (page.new ≡ page.old ++ spec.first_rows entries fragments turns) }
 {
     append_count(page, entries, b"entries")?;
-    append_count(page, fragments, b"fragments")?;
+    append_count(page, fragments, b"tasks")?;
     append_turn(page, turns, b"turns, of these")
 }
 
-/// Adds the turns by their kinds.
+/// Appends the turns by their kinds.
 #[tactic(auto, unfolding(crate::specs::Counts::turn_rows))]
-fn append_turns(page: &mut Vec<u8>, counters: &Counters) -> Result<(), NoMemory>
-    ensures { OnOk result (page.new.items ≡ page.old.items ++ spec.turn_rows counters.now) }
+fn append_turns(page: &mut Page, counters: &Counters) -> Result<(), NoMemory>
+    ensures { OnOk result (page.new ≡ page.old ++ spec.turn_rows counters.now) }
 {
     append_accesses(page, counters)?;
     append_ends(page, counters)?;
     append_late(page, counters)
 }
 
-/// Adds the turns of a fragment on its way.
+/// Appends the turns of a fragment on its way.
 #[tactic(auto, unfolding(crate::specs::Counts::access_rows))]
-fn append_accesses(page: &mut Vec<u8>, counters: &Counters) -> Result<(), NoMemory>
-    ensures { OnOk result (page.new.items ≡ page.old.items ++ spec.access_rows counters.now) }
+fn append_accesses(page: &mut Page, counters: &Counters) -> Result<(), NoMemory>
+    ensures { OnOk result (page.new ≡ page.old ++ spec.access_rows counters.now) }
 {
     append_turn(page, counters.begins, b"  begins")?;
     append_turn(page, counters.reads, b"  reads")?;
@@ -132,70 +127,70 @@ fn append_accesses(page: &mut Vec<u8>, counters: &Counters) -> Result<(), NoMemo
     append_turn(page, counters.allocs, b"  new locations")
 }
 
-/// Adds the turns at its end, and the checks.
+/// Appends the turns at its end, and the checks.
 #[tactic(auto, unfolding(crate::specs::Counts::end_rows))]
-fn append_ends(page: &mut Vec<u8>, counters: &Counters) -> Result<(), NoMemory>
-    ensures { OnOk result (page.new.items ≡ page.old.items ++ spec.end_rows counters.now) }
+fn append_ends(page: &mut Page, counters: &Counters) -> Result<(), NoMemory>
+    ensures { OnOk result (page.new ≡ page.old ++ spec.end_rows counters.now) }
 {
     append_turn(page, counters.checks, b"  checks")?;
     append_turn(page, counters.commits, b"  commits")?;
     append_turn(page, counters.blocks, b"  false conditions")
 }
 
-/// Adds a count of turns.
-fn append_turn(page: &mut Vec<u8>, count: u32, what: &[u8]) -> Result<(), NoMemory>
-    ensures { OnOk result (page.new.items ≡ page.old.items ++ count_row count what.now) }
+/// Appends a count of turns.
+fn append_turn(page: &mut Page, count: u32, what: &[u8]) -> Result<(), NoMemory>
+    ensures { OnOk result (page.new ≡ page.old ++ count_row count what.now) }
 {
     append_count(page, u64::from(count), what)
 }
 
-/// Adds the other turns.
+/// Appends the other turns.
 #[tactic(auto, unfolding(crate::specs::Counts::late_rows))]
-fn append_late(page: &mut Vec<u8>, counters: &Counters) -> Result<(), NoMemory>
-    ensures { OnOk result (page.new.items ≡ page.old.items ++ spec.late_rows counters.now) }
+fn append_late(page: &mut Page, counters: &Counters) -> Result<(), NoMemory>
+    ensures { OnOk result (page.new ≡ page.old ++ spec.late_rows counters.now) }
 {
-    append_turn(page, counters.talls, b"  too high")?;
+    append_turn(page, counters.talls, b"  too deep")?;
     append_turn(page, counters.undos, b"  undos")?;
     append_turn(page, counters.frees, b"  unprotected")
 }
 
-/// Adds a count beside its bound, which comes from other counts as the words tell.
+/// Appends a count next to its bound. The words say from which other counts the bound comes.
 #[tactic(auto, unfolding(crate::specs::Counts::bounded_row))]
 fn append_bounded(
-    page: &mut Vec<u8>,
+    page: &mut Page,
     count: u64,
     what: &[u8],
     words: &[u8],
     most: u64,
 ) -> Result<(), NoMemory>
-    ensures { OnOk result (page.new.items ≡ page.old.items ++ bounded_row count what.now words.now most) }
+    ensures { OnOk result (page.new ≡ page.old ++ bounded_row count what.now words.now most) }
 {
-    append_column(page, 9, count)?;
-    append(page, what)?;
+    page.add_column(9, count)?;
+    page.add(what)?;
     append_bound(page, words, most)
 }
 
-/// Adds a bound, which comes from other counts as the words tell.
+/// Appends a bound. The words say from which other counts it comes.
 #[tactic(auto, unfolding(crate::specs::Counts::bound_words))]
-fn append_bound(page: &mut Vec<u8>, words: &[u8], most: u64) -> Result<(), NoMemory>
-    ensures { OnOk result (page.new.items ≡ page.old.items ++ bound_words words.now most) }
+fn append_bound(page: &mut Page, words: &[u8], most: u64) -> Result<(), NoMemory>
+    ensures { OnOk result (page.new ≡ page.old ++ bound_words words.now most) }
 {
-    append(page, b", at most ")?;
-    append(page, words)?;
-    append(page, b" = ")?;
-    append_decimal(page, most)?;
-    append(page, b"\n")
+    page.add(b", at most ")?;
+    page.add(words)?;
+    page.add(b" = ")?;
+    page.add_number(most)?;
+    page.add(b"\n")
 }
 
-/// Adds what is bounded.
+/// Appends what is bounded.
 #[tactic(auto, unfolding(crate::specs::Counts::bounded_rows))]
 fn append_all_bounded<V>(
-    page: &mut Vec<u8>,
+    page: &mut Page,
     ended: &Ended<V>,
     fragments: u64,
     limits: Limits,
 ) -> Result<(), NoMemory>
-    ensures { OnOk result (page.new.items ≡ page.old.items ++ spec.bounded_rows ended.now fragments limits) }
+    ensures { OnOk result (page.new ≡ page.old ++ spec.bounded_rows ended.now fragments limits) }
 {
     let entries = ended.journal().len() as u64;
     append_refusals(page, ended.counters(), fragments, entries)?;
@@ -209,7 +204,7 @@ fn append_all_bounded<V>(
     append_spent(page, ended, limits.slice)
 }
 
-/// How many answers may turn fragments back.
+/// Returns how many answers may turn fragments back.
 fn most_refusals(fragments: u64, entries: u64) -> Result<u64, NoMemory>
     ensures { IfOk result (λ most. most ≡ most_refusals fragments entries) }
 {
@@ -217,62 +212,68 @@ fn most_refusals(fragments: u64, entries: u64) -> Result<u64, NoMemory>
     all.checked_mul(8).ok_or(NoMemory)
 }
 
-/// How that number comes.
-fn refusal_words(alloc: Global, fragments: u64, entries: u64) -> Result<Vec<u8>, NoMemory>
-    ensures { IfOk result (λ words. words.items ≡ refusal_words fragments entries) }
+/// Returns the words that say from which counts this number comes.
+fn refusal_words(alloc: Global, fragments: u64, entries: u64) -> Result<Page, NoMemory>
+    ensures { IfOk result (λ words. words ≡ refusal_words fragments entries) }
 {
-    let mut words = Vec::new(alloc);
-    append(&mut words, b"8 * (")?;
-    append_decimal(&mut words, fragments)?;
-    append(&mut words, b" + ")?;
-    append_decimal(&mut words, entries)?;
-    append(&mut words, b")")?;
+    let mut words = Page::new(alloc);
+    words.add(b"8 * (")?;
+    words.add_number(fragments)?;
+    words.add(b" + ")?;
+    words.add_number(entries)?;
+    words.add(b")")?;
     Ok(words)
 }
 
-/// Adds the answers that turned a fragment back.
+/// Appends the answers that turned a fragment back.
 #[tactic(auto, unfolding(crate::specs::Counts::refusal_row))]
 fn append_refusals(
-    page: &mut Vec<u8>,
+    page: &mut Page,
     counters: &Counters,
     fragments: u64,
     entries: u64,
 ) -> Result<(), NoMemory>
-    ensures { OnOk result (page.new.items ≡ page.old.items ++ spec.refusal_row counters.now fragments entries) }
+    ensures { OnOk result (page.new ≡ page.old ++ spec.refusal_row counters.now fragments entries) }
 {
-    let words = refusal_words(*page.allocator(), fragments, entries)?;
+    let words = refusal_words(page.allocator(), fragments, entries)?;
     append_bounded(
         page,
         u64::from(counters.conflicts) + u64::from(counters.invalids),
         b"conflicts and invalid reads",
-        &words,
+        words.as_slice(),
         most_refusals(fragments, entries)?,
     )
 }
 
-/// Adds the tries that left no entry.
+/// Appends the attempts that left no entry.
 #[tactic(auto, unfolding(crate::specs::Counts::try_row))]
 fn append_tries(
-    page: &mut Vec<u8>,
+    page: &mut Page,
     tries: u64,
     fragments: u64,
     entries: u64,
     seats: u32,
 ) -> Result<(), NoMemory>
-    ensures { OnOk result (page.new.items ≡ page.old.items ++ spec.try_row tries fragments entries seats) }
+    ensures { OnOk result (page.new ≡ page.old ++ spec.try_row tries fragments entries seats) }
 {
     let seats = u64::from(seats);
     let most = most_refusals(fragments, entries)?;
     let most = most.checked_add(seats).ok_or(NoMemory)?;
-    let mut words = refusal_words(*page.allocator(), fragments, entries)?;
-    append(&mut words, b" + ")?;
-    append_decimal(&mut words, seats)?;
-    append_bounded(page, tries, b"tries that left no entry", &words, most)
+    let mut words = refusal_words(page.allocator(), fragments, entries)?;
+    words.add(b" + ")?;
+    words.add_number(seats)?;
+    append_bounded(
+        page,
+        tries,
+        b"attempts that left no entry",
+        words.as_slice(),
+        most,
+    )
 }
 
-/// Adds the turns beside what pays for them, where they are used up.
-fn append_spent<V>(page: &mut Vec<u8>, ended: &Ended<V>, slice: u32) -> Result<(), NoMemory>
-    ensures { OnOk result (page.new.items ≡ page.old.items ++ spec.spent_row ended.now slice ended.now.stop) }
+/// Appends the turns next to what pays for them, if they are used up.
+fn append_spent<V>(page: &mut Page, ended: &Ended<V>, slice: u32) -> Result<(), NoMemory>
+    ensures { OnOk result (page.new ≡ page.old ++ spec.spent_row ended.now slice ended.now.stop) }
 {
     match ended.stopped() {
         Some(Stop::Spent) => {
@@ -284,28 +285,29 @@ fn append_spent<V>(page: &mut Vec<u8>, ended: &Ended<V>, slice: u32) -> Result<(
     }
 }
 
-/// Adds the turns beside what pays for them.
+/// Appends the turns next to what pays for them.
 #[tactic(auto, unfolding(crate::specs::Counts::paid_row))]
-fn append_paid(
-    page: &mut Vec<u8>,
-    turns: u32,
-    by_entries: u64,
-    by_tries: u64,
-) -> Result<(), NoMemory>
-    ensures { OnOk result (page.new.items ≡ page.old.items ++ spec.paid_row turns by_entries by_tries) }
+fn append_paid(page: &mut Page, turns: u32, by_entries: u64, by_tries: u64) -> Result<(), NoMemory>
+    ensures { OnOk result (page.new ≡ page.old ++ spec.paid_row turns by_entries by_tries) }
 {
     let all = by_entries.checked_add(by_tries).ok_or(NoMemory)?;
     let most = all.checked_mul(3).ok_or(NoMemory)?;
-    let mut words = Vec::new(*page.allocator());
-    append(&mut words, b"3 * (")?;
-    append_decimal(&mut words, by_entries)?;
-    append(&mut words, b" + ")?;
-    append_decimal(&mut words, by_tries)?;
-    append(&mut words, b")")?;
-    append_bounded(page, u64::from(turns), b"turns that are paid", &words, most)
+    let mut words = Page::new(page.allocator());
+    words.add(b"3 * (")?;
+    words.add_number(by_entries)?;
+    words.add(b" + ")?;
+    words.add_number(by_tries)?;
+    words.add(b")")?;
+    append_bounded(
+        page,
+        u64::from(turns),
+        b"turns that are paid",
+        words.as_slice(),
+        most,
+    )
 }
 
-/// What entries pay.
+/// Returns what entries pay.
 fn paid_by_entries(entries: &[Entry]) -> Result<u64, NoMemory>
     ensures { IfOk result (λ paid. paid ≡ paid_by_entries entries.now) }
 {
@@ -317,7 +319,7 @@ fn paid_by_entries(entries: &[Entry]) -> Result<u64, NoMemory>
     Ok(paid)
 }
 
-/// What tries pay.
+/// Returns what tries pay.
 fn paid_by_tries(tried: &[Tried], slice: u32) -> Result<u64, NoMemory>
     ensures { IfOk result (λ paid. paid ≡ paid_by_tries slice tried.now) }
 {

@@ -1,4 +1,4 @@
-//! Where the `ref` forms of a text are that made locations.
+//! The places of the `ref` forms that created locations.
 
 ghost use Rattle.std.specs.Prelude.{◌≡◌, ◌++◌, ◌≤◌, All, IfOk, OnOk, length, slice_get};
 ghost use Rattle.std.specs.List.{flat_map};
@@ -10,35 +10,35 @@ ghost use Rattle.ame_views.specs.Forms as spec;
 
 use crate::line_index::LineIndex;
 use ame_lex::Token;
+use ame_page::Page;
 use ame_term::{Loc, NoMemory, TyNo, push};
-use ame_why::page::{append, append_column};
 use ame_why::{Position, append_position, tokens_of};
 use std::alloc::Global;
 
 /// A location, and the `ref` form that made it.
 #[derive(Clone, Copy, PartialEq, Eq, Debug)]
-pub struct Made {
+pub struct Created {
     pub location: Loc,
     pub form: TyNo,
 }
 
-/// A line that names the columns, and a line for each location: the line and the column of the word of the `ref` form that made it.
+/// Returns a line that names the columns, and a line for each location: the line and the column of the word of the `ref` form that made it.
 /// Forms are counted from 0 in the order of the text. Time is linear in the text and in the locations, and logarithmic in the lines for
 /// each form.
-pub fn forms_of(alloc: Global, text: &[u8], made: &[Made]) -> Result<Vec<u8>, NoMemory>
+pub fn forms_of(alloc: Global, text: &[u8], made: &[Created]) -> Result<Vec<u8>, NoMemory>
     requires { length text.now ≤ max_text }
     ensures { IfOk result (λ page. page.items
         ≡ spec.form_table (spec.positions text.now (tokens_or_none (reading.tokens_of text.now))) made.now) }
 {
     let lines = LineIndex::of(alloc, text)?;
     let places = positions_in(alloc, &lines)?;
-    let mut page = Vec::new(alloc);
-    append(&mut page, b"location  ref form\n")?;
+    let mut page = Page::new(alloc);
+    page.add(b"location  ref form\n")?;
     append_forms(&mut page, &places, made)?;
-    Ok(page)
+    Ok(page.into_bytes())
 }
 
-/// Where the `ref` forms of a text are; none where it has a fault.
+/// Returns the places of the `ref` forms of a text; none if the text has an error.
 pub(crate) fn positions_in(alloc: Global, lines: &LineIndex) -> Result<Vec<Position>, NoMemory>
     requires { length lines.now.text.now ≤ max_text }
     ensures { IfOk result (λ places. places.items
@@ -48,7 +48,7 @@ pub(crate) fn positions_in(alloc: Global, lines: &LineIndex) -> Result<Vec<Posit
     positions(alloc, lines, &tokens)
 }
 
-/// Where those among the tokens of a text are.
+/// Returns the places of the `ref` forms among the tokens of a text.
 fn positions(alloc: Global, lines: &LineIndex, tokens: &[Token]) -> Result<Vec<Position>, NoMemory>
     requires { All (IsWithin lines.now.text.now) tokens.now }
     ensures { IfOk result (λ places. places.items ≡ spec.positions lines.now.text.now tokens.now) }
@@ -60,7 +60,7 @@ fn positions(alloc: Global, lines: &LineIndex, tokens: &[Token]) -> Result<Vec<P
     Ok(places)
 }
 
-/// Adds where a token is, if it is the word of a `ref` form.
+/// Appends the place of a token, if it is the word of a `ref` form.
 #[tactic(auto, unfolding(crate::specs::Forms::form_position))]
 fn note_form(places: &mut Vec<Position>, lines: &LineIndex, token: &Token) -> Result<(), NoMemory>
     requires { IsWithin lines.now.text.now token.now }
@@ -72,7 +72,7 @@ fn note_form(places: &mut Vec<Position>, lines: &LineIndex, token: &Token) -> Re
     Ok(())
 }
 
-/// Whether a token is the word of a `ref` form.
+/// Returns whether a token is the word of a `ref` form.
 fn is_form(text: &[u8], token: &Token) -> bool
     requires { IsWithin text.now token.now }
     ensures { result ≡ spec.is_form text.now token.now }
@@ -80,9 +80,9 @@ fn is_form(text: &[u8], token: &Token) -> bool
     &text[token.start as usize..token.end as usize] == b"ref".as_slice()
 }
 
-/// Adds a row for each location.
-fn append_forms(page: &mut Vec<u8>, places: &[Position], made: &[Made]) -> Result<(), NoMemory>
-    ensures { OnOk result (page.new.items ≡ page.old.items ++ flat_map (spec.form_row places.now) made.now) }
+/// Appends a row for each location.
+fn append_forms(page: &mut Page, places: &[Position], made: &[Created]) -> Result<(), NoMemory>
+    ensures { OnOk result (page.new ≡ page.old ++ flat_map (spec.form_row places.now) made.now) }
 {
     for one in made {
         append_form(page, places, *one)?;
@@ -90,18 +90,18 @@ fn append_forms(page: &mut Vec<u8>, places: &[Position], made: &[Made]) -> Resul
     Ok(())
 }
 
-/// Adds the row of a location.
+/// Appends the row of a location.
 #[tactic(auto, unfolding(crate::specs::Forms::form_row))]
-fn append_form(page: &mut Vec<u8>, places: &[Position], made: Made) -> Result<(), NoMemory>
-    ensures { OnOk result (page.new.items ≡ page.old.items ++ spec.form_row places.now made) }
+fn append_form(page: &mut Page, places: &[Position], made: Created) -> Result<(), NoMemory>
+    ensures { OnOk result (page.new ≡ page.old ++ spec.form_row places.now made) }
 {
-    append_column(page, 8, u64::from(made.location.0))?;
-    append(page, b" ")?;
+    page.add_column(8, u64::from(made.location.0))?;
+    page.add(b" ")?;
     append_position(page, position_at(places, made.form))?;
-    append(page, b"\n")
+    page.add(b"\n")
 }
 
-/// The position of the form with this number.
+/// Returns the position of the form with this number.
 pub(crate) fn position_at(places: &[Position], form: TyNo) -> Option<Position>
     ensures { result ≡ slice_get places.now form.0 }
 {

@@ -6,27 +6,27 @@ ghost use Rattle.ame_journal.specs.JournalView.{IsFit};
 ghost use Rattle.ame_views.specs.Input.{IsCertificateInput};
 
 use ame_journal::{Entry, EntryKind, Journal};
+use ame_page::Page;
 use ame_term::{Copied, NoMemory};
-use ame_why::page::append;
 use std::alloc::Global;
 
-/// The journal's text, the line `program`, and the program's text.
+/// Returns the journal's text, the line `program`, and the program's text.
 pub fn input_of(alloc: Global, journal: &Journal, program: &[u8]) -> Result<Vec<u8>, NoMemory>
     ensures { IfOk result (λ input. IsCertificateInput input.items journal.now.entries program.now) }
 {
-    let mut input = journal.to_text(alloc)?;
-    append(&mut input, b"program\n")?;
-    append(&mut input, program)?;
-    Ok(input)
+    let mut input = Page::from_bytes(journal.to_text(alloc)?);
+    input.add(b"program\n")?;
+    input.add(program)?;
+    Ok(input.into_bytes())
 }
 
-/// Such a text has one journal and one program.
+/// States that an input has one journal and one program.
 pub fn input_is_of_one_run()
     ensures { (input program other : List ℕ) (entries others : List Entry) → IsCertificateInput input entries program → IsCertificateInput input others other
         → (entries ≡ others) × (program ≡ other) }
 {}
 
-/// A journal of these entries, where each may stand in one.
+/// Returns a journal of these entries, if each may stand in one.
 pub fn journal_of(alloc: Global, entries: &[Entry]) -> Result<Option<Journal>, NoMemory>
     ensures { IfOk result (λ made. MatchOption made (¬ All IsFit entries.now) (λ journal. journal.entries ≡ entries.now)) }
 {
@@ -40,7 +40,7 @@ pub fn journal_of(alloc: Global, entries: &[Entry]) -> Result<Option<Journal>, N
     Ok(Some(journal))
 }
 
-/// Whether an entry may stand in a journal.
+/// Returns whether an entry may stand in a journal.
 fn is_fit(entry: &Entry) -> bool
     ensures { IsTrue result ↔ IsFit entry.now }
 {
@@ -52,7 +52,7 @@ fn is_fit(entry: &Entry) -> bool
     }
 }
 
-/// Adds a copy of an entry.
+/// Appends a copy of an entry.
 fn add(alloc: Global, journal: &mut Journal, entry: &Entry) -> Result<(), NoMemory>
     requires { IsFit entry.now }
     ensures { OnOk result (journal.new.entries ≡ journal.old.entries ++ entry.now ∷ []) }

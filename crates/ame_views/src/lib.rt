@@ -20,7 +20,7 @@ mod trace;
 mod waits;
 
 pub use counts::{counts_of, weak_counts_of};
-pub use forms::{Made, forms_of};
+pub use forms::{Created, forms_of};
 pub use input::{input_is_of_one_run, input_of, journal_of};
 pub use replayed::{ReplayedRun, replayed_run_of};
 pub use standings::{halted_of, standings_of};

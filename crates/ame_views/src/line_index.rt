@@ -18,7 +18,7 @@ pub(crate) struct LineIndex<'a> {
 }
 
 impl<'a> LineIndex<'a> {
-    /// The index of a text. Time is linear in the text.
+    /// Returns the index of a text. Time is linear in the text.
     pub(crate) fn of(alloc: Global, text: &'a [u8]) -> Result<LineIndex<'a>, NoMemory>
         ensures { IfOk result (λ lines. lines.text.now ≡ text.now) }
     {
@@ -31,7 +31,7 @@ impl<'a> LineIndex<'a> {
         Ok(LineIndex { text, feeds })
     }
 
-    /// The line and the column of a place. Time is logarithmic in the lines.
+    /// Returns the line and the column of a place. Time is logarithmic in the lines.
     pub(crate) fn position(&self, place: usize) -> Position
         requires { place ≤ length self.now.text.now }
         ensures line { result.line ≡ line_number self.now.text.now place }
@@ -44,7 +44,7 @@ impl<'a> LineIndex<'a> {
         }
     }
 
-    /// How many line feeds there are before a place.
+    /// Returns how many line feeds there are before a place.
     fn feed_count(&self, place: usize) -> usize
         requires { place ≤ length self.now.text.now }
         ensures value { result ≡ count_by is_feed (take place self.now.text.now) }
@@ -53,7 +53,7 @@ impl<'a> LineIndex<'a> {
         self.feeds.as_slice().partition_point(|feed| *feed < place)
     }
 
-    /// The first place of the line of a place before which there are so many line feeds.
+    /// Returns the first place of a line: the line of a place that has this many line feeds before it.
     fn line_start(&self, place: usize, feeds: usize) -> usize
         requires within { place ≤ length self.now.text.now }
         requires counted { feeds ≡ count_by is_feed (take place self.now.text.now) }

@@ -1,4 +1,4 @@
-//! What comes next of the members.
+//! The kind of each entry's next one.
 
 ghost use Rattle.std.specs.Prelude.{◌≡◌, IfOk};
 ghost use Rattle.std.specs.Ordering.{nat_cmp};
@@ -10,7 +10,7 @@ use ame_term::NoMemory;
 use std::alloc::Global;
 use std::collections::BTreeMap;
 
-/// Of each entry, of which kind the next one of its member is.
+/// Returns for each entry the kind of its member's next one.
 pub(crate) fn nexts_of(alloc: Global, entries: &[Entry]) -> Result<Vec<Option<EntryKind>>, NoMemory>
     ensures { IfOk result (λ nexts. nexts.items ≡ spec.nexts entries.now) }
 {

@@ -1,4 +1,4 @@
-//! Where the forms of nodes are in a program's text.
+//! The places of the forms of nodes in a program's text.
 
 ghost use Rattle.std.specs.Prelude.{◌≡◌, ◌<◌, IfSome, length, slice_get};
 ghost use Rattle.ame_code.specs.Code.{program_of};
@@ -13,7 +13,7 @@ use ame_code::{Code, NodeNo};
 use ame_eval::Fragment;
 use ame_why::Position;
 
-/// A number of a list by its place.
+/// Returns a number of a list by its place.
 fn number_at(numbers: &[u32], place: u32) -> Option<u32>
     ensures { result ≡ slice_get numbers.now place }
 {
@@ -24,7 +24,7 @@ fn number_at(numbers: &[u32], place: u32) -> Option<u32>
     }
 }
 
-/// The place of the form of a node, by the numbers of nodes in reading order.
+/// Returns the place of the form of a node, by the numbers of nodes in reading order.
 pub(crate) fn node_place(code: &Code, numbers: &[u32], node: NodeNo) -> Option<u32>
     requires { numbers.now ≡ read_numbers 0 (program_of code.now) }
     ensures { result ≡ spec.node_place code.now node.0 }
@@ -33,7 +33,7 @@ pub(crate) fn node_place(code: &Code, numbers: &[u32], node: NodeNo) -> Option<u
     number_at(code.accepted().program.places.as_slice(), number)
 }
 
-/// The line and the column of a place, if it is in the text.
+/// Returns the line and the column of a place, if it is in the text.
 pub(crate) fn position_in(lines: &LineIndex, place: u32) -> Option<Position>
     ensures there { IfSome result (λ there. there ≡ position lines.now.text.now place) }
     ensures outside { result ≡ None → length lines.now.text.now < place }
@@ -45,7 +45,7 @@ pub(crate) fn position_in(lines: &LineIndex, place: u32) -> Option<Position>
     }
 }
 
-/// Where the form is at which a fragment stands, if it stands at one.
+/// Returns the place of the form that a fragment has come to, if there is one.
 pub(crate) fn standing_position(
     lines: &LineIndex,
     code: &Code,

@@ -1,4 +1,4 @@
-//! What a replay of a run shows.
+//! A replay of a run, as views need it.
 
 ghost use Rattle.std.specs.Prelude.{◌≡◌, [], ℕ, IfErr, IfOk, Some, map};
 ghost use Rattle.ame_journal.specs.Replayed.{Replayed};
@@ -17,14 +17,14 @@ use ame_code::{Code, read_numbers};
 use ame_journal::Entry;
 use std::alloc::Global;
 
-/// What a replay of a run's journal shows.
+/// A replay of a run's journal, as views need it.
 #[derive(Drop)]
 pub struct ReplayedRun {
     /// The integers that each entry prints.
     pub lines: Vec<Vec<i64>>,
-    /// What started each fragment but the program, in the order of their numbers.
+    /// The starter of each task but the program, in the order of their numbers.
     pub starters: Vec<Starter>,
-    /// How many fragments there ever were: the program, and each that was started.
+    /// The number of tasks there ever were: the program, and each that was started.
     pub fragments: u64,
 }
 

@@ -1,4 +1,4 @@
-//! What an entry tells, as a row.
+//! The row of an entry.
 
 ghost use Rattle.std.specs.Prelude.{◌≡◌, ◌++◌, OnOk, decimal, map};
 ghost use Rattle.std.specs.List.{flat_map};
@@ -8,153 +8,152 @@ ghost use Rattle.ame_views.specs.Table.{spaced_number, spaced_integer, made_word
 use crate::starter_column::append_starter;
 use crate::starters::Starter;
 use ame_journal::{Entry, EntryKind};
+use ame_page::Page;
 use ame_term::{Loc, NoMemory};
-use ame_why::page::{append, append_column, append_told};
 use itoa::Buffer;
 
-/// Adds the row of an entry with this number, where its fragment was started so, the fragment's next entry is of this kind, and these lines
-/// were printed.
+/// Appends the row of an entry with this number, given its task's starter, the kind of the task's next entry, and the lines that it printed.
 #[tactic(auto, unfolding(crate::specs::Table::entry_row))]
 pub(crate) fn append_row(
-    page: &mut Vec<u8>,
+    page: &mut Page,
     number: u64,
     entry: &Entry,
     starter: Option<Starter>,
     next: Option<EntryKind>,
     printed: &[i64],
 ) -> Result<(), NoMemory>
-    ensures { OnOk result (page.new.items ≡ page.old.items ++ spec.entry_row number entry.now starter next printed.now) }
+    ensures { OnOk result (page.new ≡ page.old ++ spec.entry_row number entry.now starter next printed.now) }
 {
     append_counts(page, number, entry, starter)?;
     append_deed(page, entry, next, printed)
 }
 
-/// Adds the columns before the words.
+/// Appends the columns before the words.
 #[tactic(auto, unfolding(crate::specs::Table::counts))]
 fn append_counts(
-    page: &mut Vec<u8>,
+    page: &mut Page,
     number: u64,
     entry: &Entry,
     starter: Option<Starter>,
 ) -> Result<(), NoMemory>
-    ensures { OnOk result (page.new.items ≡ page.old.items ++ spec.counts number entry.now starter) }
+    ensures { OnOk result (page.new ≡ page.old ++ spec.counts number entry.now starter) }
 {
-    append_column(page, 5, number)?;
-    append_column(page, 5, u64::from(entry.seat))?;
-    append_column(page, 9, entry.number)?;
+    page.add_column(5, number)?;
+    page.add_column(5, u64::from(entry.seat))?;
+    page.add_column(9, entry.number)?;
     append_starter(page, starter)?;
-    append_column(page, 6, entry.steps)
+    page.add_column(6, entry.steps)
 }
 
-/// Adds the column of words.
+/// Appends the column of words.
 #[tactic(auto, unfolding(crate::specs::Table::deed))]
 fn append_deed(
-    page: &mut Vec<u8>,
+    page: &mut Page,
     entry: &Entry,
     next: Option<EntryKind>,
     printed: &[i64],
 ) -> Result<(), NoMemory>
-    ensures { OnOk result (page.new.items ≡ page.old.items ++ spec.deed entry.now next printed.now) }
+    ensures { OnOk result (page.new ≡ page.old ++ spec.deed entry.now next printed.now) }
 {
-    append(page, b" ")?;
-    append(page, kind_words(entry.kind, next))?;
+    page.add(b" ")?;
+    page.add(kind_words(entry.kind, next))?;
     append_left(page, entry, printed)?;
-    append(page, b"\n")
+    page.add(b"\n")
 }
 
-/// Adds what an entry left.
+/// Appends what an entry left.
 #[tactic(auto, unfolding(crate::specs::Table::left_words))]
-fn append_left(page: &mut Vec<u8>, entry: &Entry, printed: &[i64]) -> Result<(), NoMemory>
-    ensures { OnOk result (page.new.items ≡ page.old.items ++ spec.left_words entry.now printed.now) }
+fn append_left(page: &mut Page, entry: &Entry, printed: &[i64]) -> Result<(), NoMemory>
+    ensures { OnOk result (page.new ≡ page.old ++ spec.left_words entry.now printed.now) }
 {
     append_made(page, entry.fresh.as_slice())?;
     append_answer(page, entry.answer)?;
     append_printed(page, printed)
 }
 
-/// What an entry of a kind tells, where the member's next entry is of the other kind.
+/// Returns an entry's kind in words, given the kind of its member's next entry.
 fn kind_words(kind: EntryKind, next: Option<EntryKind>) -> &'static [u8]
     ensures { result.now ≡ spec.kind_words kind next }
 {
     match kind {
         EntryKind::Ran => fragment_words(next),
         EntryKind::Free => outside_words(next),
-        EntryKind::Stuck => b"was taken back: a condition is false here",
-        EntryKind::Cut => b"was cut off, and taken back",
-        EntryKind::Tall => b"was taken back: a value would be too high",
+        EntryKind::Stuck => b"rolled back: condition false",
+        EntryKind::Cut => b"rolled back: cut off",
+        EntryKind::Tall => b"rolled back: value nested too deeply",
     }
 }
 
-/// What a fragment tells: whether its member came to `unprotected`.
+/// Returns a fragment's words: whether its member came to `unprotected`.
 fn fragment_words(next: Option<EntryKind>) -> &'static [u8]
     ensures { result.now ≡ spec.fragment_words next }
 {
     match next {
         None => b"ran",
-        Some(_) => b"ran, and left for unprotected code",
+        Some(_) => b"ran, and entered unprotected code",
     }
 }
 
-/// What steps of unprotected code tell: whether they were over.
+/// Returns the words for steps of unprotected code: whether they reached its end.
 fn outside_words(next: Option<EntryKind>) -> &'static [u8]
     ensures { result.now ≡ spec.outside_words next }
 {
     match next {
-        Some(EntryKind::Ran | EntryKind::Stuck) => b"ran unprotected code, and came back",
+        Some(EntryKind::Ran | EntryKind::Stuck) => b"finished its unprotected code",
         _ => b"ran unprotected code",
     }
 }
 
-/// Adds which locations were made, if any were.
-fn append_made(page: &mut Vec<u8>, made: &[Loc]) -> Result<(), NoMemory>
-    ensures { OnOk result (page.new.items ≡ page.old.items ++ made_words (map (λ l. l.0) made.now)) }
+/// Appends which locations were made, if any were.
+fn append_made(page: &mut Page, made: &[Loc]) -> Result<(), NoMemory>
+    ensures { OnOk result (page.new ≡ page.old ++ made_words (map (λ l. l.0) made.now)) }
 {
     if made.is_empty() {
         return Ok(());
     }
-    append(page, b", made")?;
+    page.add(b", created")?;
     append_numbers(page, made)
 }
 
-/// Adds each location, behind a space.
-fn append_numbers(page: &mut Vec<u8>, made: &[Loc]) -> Result<(), NoMemory>
-    ensures { OnOk result (page.new.items ≡ page.old.items ++ flat_map spaced_number (map (λ l. l.0) made.now)) }
+/// Appends each location, after a space.
+fn append_numbers(page: &mut Page, made: &[Loc]) -> Result<(), NoMemory>
+    ensures { OnOk result (page.new ≡ page.old ++ flat_map spaced_number (map (λ l. l.0) made.now)) }
 {
     for location in made {
         let mut buffer = Buffer::new();
-        append(page, b" ")?;
-        append(page, buffer.format(location.0).as_bytes())?;
+        page.add(b" ")?;
+        page.add(buffer.format(location.0).as_bytes())?;
     }
     Ok(())
 }
 
-/// Adds what a device answered, if one was called.
-fn append_answer(page: &mut Vec<u8>, answer: Option<i64>) -> Result<(), NoMemory>
-    ensures { OnOk result (page.new.items ≡ page.old.items ++ answer_shown answer) }
+/// Appends what a device answered, if one was called.
+fn append_answer(page: &mut Page, answer: Option<i64>) -> Result<(), NoMemory>
+    ensures { OnOk result (page.new ≡ page.old ++ answer_shown answer) }
 {
     match answer {
         None => Ok(()),
-        Some(answer) => append_told(page, b", was answered ", answer),
+        Some(answer) => page.add_labelled(b", answer ", answer),
     }
 }
 
-/// Adds which lines were printed, if any were.
-fn append_printed(page: &mut Vec<u8>, printed: &[i64]) -> Result<(), NoMemory>
-    ensures { OnOk result (page.new.items ≡ page.old.items ++ printed_words printed.now) }
+/// Appends which lines were printed, if any were.
+fn append_printed(page: &mut Page, printed: &[i64]) -> Result<(), NoMemory>
+    ensures { OnOk result (page.new ≡ page.old ++ printed_words printed.now) }
 {
     if printed.is_empty() {
         return Ok(());
     }
-    append(page, b", printed")?;
+    page.add(b", printed")?;
     append_lines(page, printed)
 }
 
-/// Adds each integer, behind a space.
-fn append_lines(page: &mut Vec<u8>, printed: &[i64]) -> Result<(), NoMemory>
-    ensures { OnOk result (page.new.items ≡ page.old.items ++ flat_map spaced_integer printed.now) }
+/// Appends each integer, after a space.
+fn append_lines(page: &mut Page, printed: &[i64]) -> Result<(), NoMemory>
+    ensures { OnOk result (page.new ≡ page.old ++ flat_map spaced_integer printed.now) }
 {
     for line in printed {
-        append_told(page, b" ", *line)?;
+        page.add_labelled(b" ", *line)?;
     }
     Ok(())
 }

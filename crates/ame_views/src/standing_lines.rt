@@ -1,4 +1,4 @@
-//! The lines that tell where a member stands, and what it read.
+//! The lines on a member's place and on its reads.
 
 ghost use Rattle.std.specs.Prelude.{◌≡◌, ◌++◌, Some, OnOk};
 ghost use Rattle.std.specs.List.{flat_map};
@@ -8,90 +8,101 @@ use crate::forms::position_at;
 use crate::stored::held_text;
 use ame_check::Stored;
 use ame_journal::{Entry, EntryKind};
+use ame_page::Page;
 use ame_term::{NoMemory, TyNo};
 use ame_value::Val;
-use ame_why::page::{append, append_decimal};
 use ame_why::{Position, append_position};
 use std::collections::BTreeMap;
 
-/// Adds the line of a note: which member it is, where it was started, and where it stands.
+/// Appends the line of a note: its member, the place that started the member, and the place that it has come to.
 #[tactic(auto, unfolding(crate::specs::Standings::standing_line))]
 pub(crate) fn append_standing(
-    page: &mut Vec<u8>,
+    page: &mut Page,
     note: &Entry,
     started: Option<Position>,
     there: Option<Position>,
 ) -> Result<(), NoMemory>
-    ensures { OnOk result (page.new.items ≡ page.old.items ++ spec.standing_line note.now started there) }
+    ensures { OnOk result (page.new ≡ page.old ++ spec.standing_line note.now started there) }
 {
     append_member(page, note.number, started)?;
     append_stance(page, note, there)
 }
 
-/// Adds a member, and where it was started.
+/// Appends a member, and the place that started it.
 #[tactic(auto, unfolding(crate::specs::Standings::member_words))]
-fn append_member(page: &mut Vec<u8>, number: u64, started: Option<Position>) -> Result<(), NoMemory>
-    ensures { OnOk result (page.new.items ≡ page.old.items ++ spec.member_words number started) }
+fn append_member(page: &mut Page, number: u64, started: Option<Position>) -> Result<(), NoMemory>
+    ensures { OnOk result (page.new ≡ page.old ++ spec.member_words number started) }
 {
-    append(page, b"fragment ")?;
-    append_decimal(page, number)?;
+    page.add(b"task ")?;
+    page.add_number(number)?;
     append_start(page, started)
 }
 
-/// Adds where a member stands after a note's steps.
+/// Appends the place that a member has come to after a note's steps.
 #[tactic(auto, unfolding(crate::specs::Standings::stands_words))]
-fn append_stance(page: &mut Vec<u8>, note: &Entry, there: Option<Position>) -> Result<(), NoMemory>
-    ensures { OnOk result (page.new.items ≡ page.old.items ++ spec.stands_words note.now there) }
+fn append_stance(page: &mut Page, note: &Entry, there: Option<Position>) -> Result<(), NoMemory>
+    ensures { OnOk result (page.new ≡ page.old ++ spec.stands_words note.now there) }
 {
-    append(page, b" stands after ")?;
-    append_decimal(page, note.steps)?;
-    append(page, b" steps")?;
+    page.add(stance(note.kind))?;
     append_place(page, there)?;
-    append(page, ending(note.kind))
+    page.add(b" after ")?;
+    page.add_number(note.steps)?;
+    page.add(ending(note.kind))
 }
 
-/// Adds the place at which it stands, if that is known.
-fn append_place(page: &mut Vec<u8>, there: Option<Position>) -> Result<(), NoMemory>
-    ensures { OnOk result (page.new.items ≡ page.old.items ++ spec.place_words there) }
+/// Appends the place at which it stands, if that is known.
+fn append_place(page: &mut Page, there: Option<Position>) -> Result<(), NoMemory>
+    ensures { OnOk result (page.new ≡ page.old ++ spec.place_words there) }
 {
     if there.is_none() {
         return Ok(());
     }
-    append(page, b" at ")?;
+    page.add(b" at ")?;
     append_position(page, there)
 }
 
-/// What a note of a kind tells of its member there.
+/// Returns what a member does that has a note of this kind, in words.
+fn stance(kind: EntryKind) -> &'static [u8]
+    ensures { result.now ≡ spec.stance kind }
+{
+    match kind {
+        EntryKind::Stuck => b" is blocked",
+        EntryKind::Tall => b" stops",
+        EntryKind::Ran | EntryKind::Free | EntryKind::Cut => b" was cut off",
+    }
+}
+
+/// Returns why it does, in words.
 fn ending(kind: EntryKind) -> &'static [u8]
     ensures { result.now ≡ spec.ending kind }
 {
     match kind {
-        EntryKind::Stuck => b", where its condition is false\n",
-        EntryKind::Tall => b", where a value would be too high\n",
-        EntryKind::Ran | EntryKind::Free | EntryKind::Cut => b", where it was cut off\n",
+        EntryKind::Stuck => b" steps: its condition is false\n",
+        EntryKind::Tall => b" steps: a value would be nested too deeply\n",
+        EntryKind::Ran | EntryKind::Free | EntryKind::Cut => b" steps: the run ended\n",
     }
 }
 
-/// Adds where the form is that started a member, if that is known.
-fn append_start(page: &mut Vec<u8>, started: Option<Position>) -> Result<(), NoMemory>
-    ensures { OnOk result (page.new.items ≡ page.old.items ++ spec.start_words started) }
+/// Appends the place of the form that started a member, if it is known.
+fn append_start(page: &mut Page, started: Option<Position>) -> Result<(), NoMemory>
+    ensures { OnOk result (page.new ≡ page.old ++ spec.start_words started) }
 {
     if started.is_none() {
         return Ok(());
     }
-    append(page, b", started at ")?;
+    page.add(b" (started at ")?;
     append_position(page, started)?;
-    append(page, b",")
+    page.add(b")")
 }
 
-/// Adds a line for each location that was read, in the order of their numbers.
+/// Appends a line for each location that was read, in the order of their numbers.
 pub(crate) fn append_reads(
-    page: &mut Vec<u8>,
+    page: &mut Page,
     forms: &[Position],
     cells: &BTreeMap<u32, Stored<Val>>,
     reads: BTreeMap<u32, u64>,
 ) -> Result<(), NoMemory>
-    ensures { OnOk result (page.new.items ≡ page.old.items ++ flat_map (spec.read_line forms.now cells.now.entries) reads.entries) }
+    ensures { OnOk result (page.new ≡ page.old ++ flat_map (spec.read_line forms.now cells.now.entries) reads.entries) }
 {
     let mut left = reads;
     while let Some((l, _)) = left.pop_first() {
@@ -100,15 +111,15 @@ pub(crate) fn append_reads(
     Ok(())
 }
 
-/// Adds the line of a location, if it was there before.
+/// Appends the line of a location, if it was there before.
 #[tactic(auto, unfolding(crate::specs::Standings::held_line))]
 fn append_read(
-    page: &mut Vec<u8>,
+    page: &mut Page,
     forms: &[Position],
     cells: &BTreeMap<u32, Stored<Val>>,
     l: u32,
 ) -> Result<(), NoMemory>
-    ensures { OnOk result (page.new.items ≡ page.old.items ++ spec.read_line forms.now cells.now.entries (l, 0)) }
+    ensures { OnOk result (page.new ≡ page.old ++ spec.read_line forms.now cells.now.entries (l, 0)) }
 {
     match cells.get(&l) {
         Some(cell) => append_held(page, forms, l, cell),
@@ -116,40 +127,40 @@ fn append_read(
     }
 }
 
-/// Adds where its `ref` form is, and what it holds.
+/// Appends the place of its `ref` form, and its value.
 #[tactic(auto, unfolding(crate::specs::Standings::held_line))]
 fn append_held(
-    page: &mut Vec<u8>,
+    page: &mut Page,
     forms: &[Position],
     l: u32,
     cell: &Stored<Val>,
 ) -> Result<(), NoMemory>
-    ensures { OnOk result (page.new.items ≡ page.old.items ++ spec.held_line forms.now l (Some cell.now)) }
+    ensures { OnOk result (page.new ≡ page.old ++ spec.held_line forms.now l (Some cell.now)) }
 {
     append_made(page, forms, l, cell.number)?;
     append_holds(page, &cell.value)
 }
 
-/// Adds a location, and where its `ref` form is.
+/// Appends a location, and the place of its `ref` form.
 #[tactic(auto, unfolding(crate::specs::Standings::made_words))]
-fn append_made(page: &mut Vec<u8>, forms: &[Position], l: u32, form: TyNo) -> Result<(), NoMemory>
-    ensures { OnOk result (page.new.items ≡ page.old.items ++ spec.made_words forms.now l form.0) }
+fn append_made(page: &mut Page, forms: &[Position], l: u32, form: TyNo) -> Result<(), NoMemory>
+    ensures { OnOk result (page.new ≡ page.old ++ spec.made_words forms.now l form.0) }
 {
-    append(page, b"  it read location ")?;
-    append_decimal(page, u64::from(l))?;
-    append(page, b", made at ")?;
+    page.add(b"  it read location ")?;
+    page.add_number(u64::from(l))?;
+    page.add(b" (created at ")?;
     append_position(page, position_at(forms, form))?;
     Ok(())
 }
 
-/// Adds what it holds.
+/// Appends what it holds.
 #[tactic(auto, unfolding(crate::specs::Standings::holds_words))]
-fn append_holds(page: &mut Vec<u8>, value: &Val) -> Result<(), NoMemory>
-    ensures { OnOk result (page.new.items ≡ page.old.items ++ spec.holds_words value.now) }
+fn append_holds(page: &mut Page, value: &Val) -> Result<(), NoMemory>
+    ensures { OnOk result (page.new ≡ page.old ++ spec.holds_words value.now) }
 {
-    let held = held_text(*page.allocator(), value)?;
-    append(page, b", which holds ")?;
-    append(page, &held)?;
-    append(page, b"\n")?;
+    let held = held_text(page.allocator(), value)?;
+    page.add(b"), which now holds ")?;
+    page.add(&held)?;
+    page.add(b"\n")?;
     Ok(())
 }

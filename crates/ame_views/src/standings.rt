@@ -1,4 +1,4 @@
-//! Where members stand behind the steps of notes, and what they read on the way.
+//! The places that members have come to after the steps of notes, and their reads on the way.
 
 ghost use Rattle.std.specs.Prelude.{◌≡◌, ◌≤◌, List, IfOk, IfSome, length};
 ghost use Rattle.ame_lex.specs.Bytes.{max_text};
@@ -20,22 +20,21 @@ use crate::forms::positions_in;
 use crate::line_index::LineIndex;
 use crate::node_places::standing_position;
 use crate::standing_lines::{append_reads, append_standing};
-use ame_check::{Replay, Standing, Stored};
+use ame_check::{EntryError, Replay, Standing, Stored};
 use ame_code::{Code, read_numbers};
-use ame_engine::Certificate;
 use ame_eval::Fragment;
-use ame_journal::{Entry, EntryKind};
+use ame_journal::{Certificate, Entry, EntryKind};
 use ame_machine::Wants;
+use ame_page::Page;
 use ame_term::{Copied, Locs, NoMemory};
 use ame_value::Val;
 use ame_why::Position;
-use ame_why::page::append;
 use std::alloc::Global;
 use std::collections::BTreeMap;
 
-/// For each member that is left, where all are blocked, the line and the column of the `async` form that started it and of the form at which
-/// it stands, and for each location that it read, unless it made it itself, the line and the column of its `ref` form and what it holds. None where the entries aren't those of a run, or
-/// a certificate doesn't hold behind them. Costs what the run did.
+/// Returns two kinds of lines for each member of a blocked run: one with the `async` form that started it and the form that it has come to,
+/// and one for each location that it read and did not create, with its `ref` form and its value. Forms have their line and column.
+/// None if the entries aren't those of a run, or a certificate doesn't hold after them. Costs as much as the run.
 pub fn standings_of(
     alloc: Global,
     text: &[u8],
@@ -53,7 +52,7 @@ pub fn standings_of(
     let numbers = read_numbers(alloc, &code.accepted().program.term)?;
     let lines = LineIndex::of(alloc, text)?;
     let forms = positions_in(alloc, &lines)?;
-    let mut page = Vec::new(alloc);
+    let mut page = Page::new(alloc);
     for certificate in certificates {
         let started = started_position(&lines, code, &numbers, &begun, certificate.number);
         let Some(part) = part_of(
@@ -69,14 +68,14 @@ pub fn standings_of(
         else {
             return Ok(None);
         };
-        append(&mut page, &part)?;
+        page.add(&part)?;
     }
-    Ok(Some(page))
+    Ok(Some(page.into_bytes()))
 }
 
-/// The same of the member of a note with which a run ends: one that was cut off, or came to a value that is too high. The place at which it
-/// stands isn't told where it is at a value for which nothing waits. None where the entries aren't those of a run, or the note can't be made behind
-/// them. Costs what the run did.
+/// Returns such lines for the member of a note with which a run ends: it was cut off, or came to a value that is nested too deeply.
+/// Its place is unknown if it has come to a value for which nothing waits. None if the entries aren't those of a run, or the note can't
+/// be made after them. Costs as much as the run.
 pub fn halted_of(
     alloc: Global,
     text: &[u8],
@@ -106,7 +105,7 @@ pub fn halted_of(
     Ok(Some(page))
 }
 
-/// Whether a note of a kind tells that its member wants this next.
+/// Returns whether a note of this kind says that its member wants this next.
 fn confirms(kind: EntryKind, want: Wants) -> bool
     ensures { result ≡ is_confirmed kind want }
 {
@@ -124,7 +123,7 @@ fn confirms(kind: EntryKind, want: Wants) -> bool
     }
 }
 
-/// The note that a certificate was.
+/// Returns the note that a certificate was.
 fn note_of(alloc: Global, certificate: &Certificate) -> Result<Entry, NoMemory>
     ensures { IfOk result (λ note. note ≡ spec.stuck_note certificate.now) }
 {
@@ -140,7 +139,7 @@ fn note_of(alloc: Global, certificate: &Certificate) -> Result<Entry, NoMemory>
     })
 }
 
-/// The steps of a note, as those of a member that was cut off.
+/// Returns the steps of a note, as those of a member that was cut off.
 fn cut_of(alloc: Global, note: &Entry) -> Result<Entry, NoMemory>
     ensures { IfOk result (λ cut. cut ≡ record note.now { kind = EntryKind.Cut }) }
 {
@@ -149,7 +148,7 @@ fn cut_of(alloc: Global, note: &Entry) -> Result<Entry, NoMemory>
     Ok(cut)
 }
 
-/// What a member wants behind a note's steps, what these read, and where the form is at which it stands, if that is known.
+/// A member after a note's steps: what it wants, what these steps read, and the form that it has come to, if known.
 #[derive(Drop)]
 struct Stance {
     want: Wants,
@@ -157,7 +156,7 @@ struct Stance {
     there: Option<Position>,
 }
 
-/// What the member of a note comes to; none where its steps can't be made.
+/// Returns what the member of a note comes to; none if its steps can't be made.
 fn stance_of(
     alloc: Global,
     lines: &LineIndex,
@@ -174,8 +173,10 @@ fn stance_of(
         → spec.LeadsNoteTo lines.now.text.now code.now entries note.now stance.want stance.reads.entries stance.there)) }
 {
     let cut = cut_of(alloc, note)?;
-    let Some(standing) = replay.stand(alloc, code, &cut)? else {
-        return Ok(None);
+    let standing = match replay.stand(alloc, code, &cut) {
+        Ok(standing) => standing,
+        Err(EntryError::Undefined(_) | EntryError::Tall) => return Ok(None),
+        Err(EntryError::NoMemory) => return Err(NoMemory),
     };
     let Standing {
         machine,
@@ -186,7 +187,7 @@ fn stance_of(
     Ok(Some(Stance { want, reads, there }))
 }
 
-/// The lines of a note whose member comes to what is handed in.
+/// Returns the lines of a note whose member comes to what is handed in.
 fn note_lines(
     alloc: Global,
     forms: &[Position],
@@ -198,13 +199,13 @@ fn note_lines(
 ) -> Result<Vec<u8>, NoMemory>
     ensures { IfOk result (λ part. part.items ≡ spec.note_lines forms.now cells.now.entries note.now started there reads.entries) }
 {
-    let mut part = Vec::new(alloc);
+    let mut part = Page::new(alloc);
     append_standing(&mut part, note, started, there)?;
     append_reads(&mut part, forms, cells, reads)?;
-    Ok(part)
+    Ok(part.into_bytes())
 }
 
-/// The lines of a certificate; none where its member doesn't come to a condition that is false.
+/// Returns the lines of a certificate; none if its member doesn't come to a false condition.
 fn part_of(
     alloc: Global,
     lines: &LineIndex,

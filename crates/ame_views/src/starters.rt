@@ -1,4 +1,4 @@
-//! What started each fragment.
+//! The entry and the form that started each task.
 
 ghost use Rattle.std.specs.Prelude.{◌≡◌, List, IfOk, length, map};
 ghost use Rattle.ame_journal.specs.declared.entry.Entry.{Entry};
@@ -49,7 +49,7 @@ pub(crate) fn with_forms(
     Ok(starters)
 }
 
-/// What started a fragment, if that is told.
+/// Returns what started a task, if it is known.
 pub(crate) fn starter_in(starters: &[Starter], fragment: u64) -> Option<Starter>
     ensures { result ≡ spec.starter_in starters.now fragment }
 {

@@ -1,4 +1,4 @@
-//! What the locations hold that are left.
+//! The values of the locations that are left.
 
 ghost use Rattle.std.specs.Prelude.{◌≡◌, ◌++◌, ◌≤◌, IfOk, OnOk, length};
 ghost use Rattle.ame_lex.specs.Bytes.{max_text};
@@ -12,15 +12,15 @@ ghost use Rattle.ame_views.specs.Stored.{IsFirstOrder, held_words, origin_words,
 
 use crate::forms::{position_at, positions_in};
 use crate::line_index::LineIndex;
+use ame_page::Page;
 use ame_print::print_term;
 use ame_store::{Cell, Store};
 use ame_term::{Loc, NoMemory, Sort, Term, Value, boxed};
 use ame_value::Val;
-use ame_why::page::{append, append_column, append_padded};
 use ame_why::{Position, append_position};
 use std::alloc::Global;
 
-/// A line that names the columns, and a row for each location that is live: its sort, the line and the column of the word of the `ref` form
+/// Returns a line that names the columns, and a row for each location that is live: its sort, the line and the column of the word of the `ref` form
 /// that made it, and the value that it holds, as canonical text unless a function is in it.
 pub fn store_of(alloc: Global, text: &[u8], store: &Store<Val>) -> Result<Vec<u8>, NoMemory>
     requires { length text.now ≤ max_text }
@@ -28,16 +28,16 @@ pub fn store_of(alloc: Global, text: &[u8], store: &Store<Val>) -> Result<Vec<u8
 {
     let lines = LineIndex::of(alloc, text)?;
     let places = positions_in(alloc, &lines)?;
-    let mut page = Vec::new(alloc);
-    append(&mut page, b"location  sort  ref form  value\n")?;
+    let mut page = Page::new(alloc);
+    page.add(b"location  sort  ref form  value\n")?;
     append_cells(&mut page, &places, store)?;
-    Ok(page)
+    Ok(page.into_bytes())
 }
 
-/// Adds a row for each location that is live.
+/// Appends a row for each location that is live.
 #[tactic(auto, unfolding(crate::specs::Stored::stored_rows))]
-fn append_cells(page: &mut Vec<u8>, places: &[Position], store: &Store<Val>) -> Result<(), NoMemory>
-    ensures { OnOk result (page.new.items ≡ page.old.items ++ stored_rows places.now 0 store.now) }
+fn append_cells(page: &mut Page, places: &[Position], store: &Store<Val>) -> Result<(), NoMemory>
+    ensures { OnOk result (page.new ≡ page.old ++ stored_rows places.now 0 store.now) }
 {
     for number in 0..store.len() {
         append_cell(page, places, number, store.cell(Loc(number)))?;
@@ -45,48 +45,48 @@ fn append_cells(page: &mut Vec<u8>, places: &[Position], store: &Store<Val>) -> 
     Ok(())
 }
 
-/// Adds the row of a location, if it is live.
+/// Appends the row of a location, if it is live.
 #[tactic(auto, unfolding(crate::specs::Stored::stored_row))]
 fn append_cell(
-    page: &mut Vec<u8>,
+    page: &mut Page,
     places: &[Position],
     number: u32,
     cell: &Cell<Val>,
 ) -> Result<(), NoMemory>
-    ensures { OnOk result (page.new.items ≡ page.old.items ++ stored_row places.now number cell.now) }
+    ensures { OnOk result (page.new ≡ page.old ++ stored_row places.now number cell.now) }
 {
     if !cell.live {
         return Ok(());
     }
-    let held = held_text(*page.allocator(), &cell.value)?;
+    let held = held_text(page.allocator(), &cell.value)?;
     append_origin(page, places, number, cell)?;
-    append(page, &held)?;
-    append(page, b"\n")
+    page.add(&held)?;
+    page.add(b"\n")
 }
 
-/// Adds a location, its sort, and the place of its `ref` form.
+/// Appends a location, its sort, and the place of its `ref` form.
 #[tactic(auto, unfolding(crate::specs::Stored::origin_words))]
 fn append_origin(
-    page: &mut Vec<u8>,
+    page: &mut Page,
     places: &[Position],
     number: u32,
     cell: &Cell<Val>,
 ) -> Result<(), NoMemory>
-    ensures { OnOk result (page.new.items ≡ page.old.items ++ origin_words places.now number cell.now) }
+    ensures { OnOk result (page.new ≡ page.old ++ origin_words places.now number cell.now) }
 {
-    let place = position_text(*page.allocator(), position_at(places, cell.ty))?;
-    append_column(page, 8, u64::from(number))?;
-    append(page, sort_column(cell.sort))?;
-    append_padded(page, 10, &place)
+    let place = position_text(page.allocator(), position_at(places, cell.ty))?;
+    page.add_column(8, u64::from(number))?;
+    page.add(sort_column(cell.sort))?;
+    page.add_padded(10, &place)
 }
 
-/// A line and a column as text.
+/// Returns a line and a column as text.
 fn position_text(alloc: Global, at: Option<Position>) -> Result<Vec<u8>, NoMemory>
     ensures { IfOk result (λ words. words.items ≡ position_words at) }
 {
-    let mut words = Vec::new(alloc);
+    let mut words = Page::new(alloc);
     append_position(&mut words, at)?;
-    Ok(words)
+    Ok(words.into_bytes())
 }
 
 fn sort_column(sort: Sort) -> &'static [u8]
@@ -98,7 +98,7 @@ fn sort_column(sort: Sort) -> &'static [u8]
     }
 }
 
-/// The canonical text of a value, unless a function is in it.
+/// Returns the canonical text of a value, unless a function is in it.
 #[tactic(auto, unfolding(crate::specs::Stored::held_words))]
 pub(crate) fn held_text(alloc: Global, value: &Val) -> Result<Vec<u8>, NoMemory>
     ensures { IfOk result (λ words. words.items ≡ held_words (flat_value value.now)) }
@@ -109,7 +109,7 @@ pub(crate) fn held_text(alloc: Global, value: &Val) -> Result<Vec<u8>, NoMemory>
     }
 }
 
-/// The value for which one of a run stands, unless a function is in it.
+/// Returns the value for which one of a run stands, unless a function is in it.
 fn plain(alloc: Global, value: &Val) -> Result<Option<Value>, NoMemory>
     ensures { IfOk result (IsFirstOrder (flat_value value.now)) }
 {

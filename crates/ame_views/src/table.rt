@@ -10,13 +10,13 @@ use crate::row::append_row;
 use crate::starter_column::append_starter;
 use crate::starters::{Starter, starter_in};
 use ame_journal::{Entry, EntryKind};
+use ame_page::Page;
 use ame_protocol::Tried;
 use ame_term::NoMemory;
-use ame_why::page::{append, append_column, append_decimal, append_spaces};
 use std::alloc::Global;
 
-/// A line that names the columns, and a line for each entry, with what started its fragment and with what it printed, as far as these are
-/// told. Tries that left no entry stand between them, in their order, none before the entries behind which it was valid last.
+/// Returns the table of a journal: a line that names the columns, and a row for each entry, with its task's starter and the lines that it
+/// printed, as far as they are given. An attempt that left no entry stands after the last entry after which its reads were valid.
 pub fn table_of(
     alloc: Global,
     entries: &[Entry],
@@ -27,19 +27,16 @@ pub fn table_of(
     ensures { IfOk result (λ page. page.items ≡ spec.table entries.now tries.now starters.now (map (λ v. v.items) lines.now)) }
 {
     let nexts = nexts_of(alloc, entries)?;
-    let mut page = Vec::new(alloc);
-    append(
-        &mut page,
-        b"entry  seat  fragment  started by      steps  what it did\n",
-    )?;
+    let mut page = Page::new(alloc);
+    page.add(b"entry  seat      task  started by      steps  what it did\n")?;
     append_rows(&mut page, entries, &nexts, tries, starters, lines)?;
-    Ok(page)
+    Ok(page.into_bytes())
 }
 
-/// Adds a row for each entry, with the kind of the next one of its fragment, and for each try.
+/// Appends a row for each entry, with the kind of the next one of its fragment, and for each try.
 #[tactic(auto, unfolding(crate::specs::Table::rows))]
 fn append_rows(
-    page: &mut Vec<u8>,
+    page: &mut Page,
     entries: &[Entry],
     nexts: &[Option<EntryKind>],
     tries: &[Tried],
@@ -47,7 +44,7 @@ fn append_rows(
     lines: &[Vec<i64>],
 ) -> Result<(), NoMemory>
     requires { nexts.now ≡ spec_nexts.nexts entries.now }
-    ensures { OnOk result (page.new.items ≡ page.old.items
+    ensures { OnOk result (page.new ≡ page.old
         ++ spec.rows 1 entries.now tries.now (starter_in starters.now) (spec.lines_at (map (λ v. v.items) lines.now))) }
 {
     let mut rest = tries;
@@ -67,15 +64,15 @@ fn append_rows(
     Ok(())
 }
 
-/// Adds the rows of the first tries, as far as these were valid before this entry; tells the others.
+/// Appends the rows of those tries that were last valid before this entry, and returns the others.
 #[tactic(auto, unfolding(crate::specs::Table::tried_rows))]
 fn append_tries<'a>(
-    page: &mut Vec<u8>,
+    page: &mut Page,
     tries: &'a [Tried],
     number: u64,
     starters: &[Starter],
 ) -> Result<&'a [Tried], NoMemory>
-    ensures rows { OnOk result (page.new.items ≡ page.old.items ++ spec.tried_rows number tries.now (starter_in starters.now)) }
+    ensures rows { OnOk result (page.new ≡ page.old ++ spec.tried_rows number tries.now (starter_in starters.now)) }
     ensures later { IfOk result (λ rest. rest.now ≡ spec.later_tries number tries.now) }
 {
     let mut rest = tries;
@@ -89,29 +86,29 @@ fn append_tries<'a>(
     Ok(rest)
 }
 
-/// Adds the row of a try, whose fragment was started so.
+/// Appends the row of a try, whose fragment was started so.
 #[tactic(auto, unfolding(crate::specs::Table::tried_row))]
-fn append_tried(page: &mut Vec<u8>, t: Tried, starter: Option<Starter>) -> Result<(), NoMemory>
-    ensures { OnOk result (page.new.items ≡ page.old.items ++ spec.tried_row t starter) }
+fn append_tried(page: &mut Page, t: Tried, starter: Option<Starter>) -> Result<(), NoMemory>
+    ensures { OnOk result (page.new ≡ page.old ++ spec.tried_row t starter) }
 {
-    append_spaces(page, 12)?;
-    append_column(page, 9, t.number)?;
+    page.add_spaces(12)?;
+    page.add_column(9, t.number)?;
     append_starter(page, starter)?;
-    append_column(page, 6, t.steps)?;
+    page.add_column(6, t.steps)?;
     append_tried_words(page, t.at)
 }
 
-/// Adds what a try tells that was valid where so many entries lead.
+/// Appends how far the reads of a try were valid.
 #[tactic(auto, unfolding(crate::specs::Table::tried_words))]
-fn append_tried_words(page: &mut Vec<u8>, at: u64) -> Result<(), NoMemory>
-    ensures { OnOk result (page.new.items ≡ page.old.items ++ spec.tried_words at) }
+fn append_tried_words(page: &mut Page, at: u64) -> Result<(), NoMemory>
+    ensures { OnOk result (page.new ≡ page.old ++ spec.tried_words at) }
 {
-    append(page, b" was rolled back; so far it was valid behind entry ")?;
-    append_decimal(page, at)?;
-    append(page, b"\n")
+    page.add(b" rolled back; its reads were last valid after entry ")?;
+    page.add_number(at)?;
+    page.add(b"\n")
 }
 
-/// The lines of the entry with this index; none where there are fewer.
+/// Returns the lines of the entry with this index; none if there are fewer entries.
 fn line_at(lines: &[Vec<i64>], index: usize) -> &[i64]
     ensures { result.now ≡ slice_index_or (map (λ v. v.items) lines.now) index [] }
 {

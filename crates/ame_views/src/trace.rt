@@ -1,4 +1,4 @@
-//! A run as a table, and where its locations were made.
+//! A run as a table, and the forms that created its locations.
 
 ghost use Rattle.std.specs.Prelude.{◌≡◌, ◌++◌, ◌≤◌, IfOk, OnOk, length, map};
 ghost use Rattle.ame_lex.specs.Bytes.{max_text};
@@ -7,17 +7,18 @@ ghost use Rattle.ame_why.specs.Open.{tokens_or_none};
 ghost use Rattle.ame_views.specs.Forms.{positions};
 ghost use Rattle.ame_views.specs.Trace as spec;
 
-use crate::forms::{Made, forms_of};
+use crate::forms::{Created, forms_of};
 use crate::replayed::ReplayedRun;
 use crate::table::table_of;
 use ame_journal::Entry;
+use ame_page::Page;
 use ame_protocol::Tried;
 use ame_store::{Cell, Store};
 use ame_term::{Loc, NoMemory, push};
 use ame_value::Val;
 use std::alloc::Global;
 
-/// Returns the table of a run's journal with its lost attempts, and where the locations were made that are left, if there are any.
+/// Returns the table of a run's journal with its lost attempts, and the forms that created the locations that are left, if any.
 pub fn trace_of(
     text: &[u8],
     entries: &[Entry],
@@ -30,41 +31,41 @@ pub fn trace_of(
         ≡ spec.trace (positions text.now (tokens_or_none (tokens_of text.now))) entries.now run.now.starters.items (map (λ v. v.items) run.now.lines.items) tried.now store.now) }
 {
     let alloc = *run.lines.allocator();
-    let mut page = table_of(
+    let table = table_of(
         alloc,
         entries,
         tried,
         run.starters.as_slice(),
         run.lines.as_slice(),
     )?;
+    let mut page = Page::from_bytes(table);
     let made = made_in(alloc, store)?;
     append_origins(alloc, &mut page, text, &made)?;
-    Ok(page)
+    Ok(page.into_bytes())
 }
 
 /// Appends where locations were made, if there are any.
 fn append_origins(
     alloc: Global,
-    page: &mut Vec<u8>,
+    page: &mut Page,
     text: &[u8],
-    made: &[Made],
+    made: &[Created],
 ) -> Result<(), NoMemory>
     requires { length text.now ≤ max_text }
-    ensures { OnOk result (page.new.items ≡ page.old.items
+    ensures { OnOk result (page.new ≡ page.old
         ++ spec.origin_part (positions text.now (tokens_or_none (tokens_of text.now))) made.now) }
 {
     if made.is_empty() {
         return Ok(());
     }
     let forms = forms_of(alloc, text, made)?;
-    page.push(b'\n')?;
-    page.extend_from_slice(&forms)?;
-    Ok(())
+    page.add_byte(b'\n')?;
+    page.add(&forms)
 }
 
 /// Returns the locations that are left, with the forms that made them.
 #[tactic(auto, unfolding(crate::specs::Trace::made_from))]
-fn made_in(alloc: Global, store: &Store<Val>) -> Result<Vec<Made>, NoMemory>
+fn made_in(alloc: Global, store: &Store<Val>) -> Result<Vec<Created>, NoMemory>
     ensures { IfOk result (λ made. made.items ≡ spec.made_from 0 store.now) }
 {
     let mut made = Vec::new(alloc);
@@ -75,7 +76,7 @@ fn made_in(alloc: Global, store: &Store<Val>) -> Result<Vec<Made>, NoMemory>
 }
 
 /// Appends a location, if it is live.
-fn note_made(made: &mut Vec<Made>, number: u32, cell: &Cell<Val>) -> Result<(), NoMemory>
+fn note_made(made: &mut Vec<Created>, number: u32, cell: &Cell<Val>) -> Result<(), NoMemory>
     ensures { OnOk result (made.new.items ≡ made.old.items ++ spec.made_there number cell.now) }
 {
     if !cell.live {
@@ -83,7 +84,7 @@ fn note_made(made: &mut Vec<Made>, number: u32, cell: &Cell<Val>) -> Result<(), 
     }
     push(
         made,
-        Made {
+        Created {
             location: Loc(number),
             form: cell.ty,
         },

@@ -5,7 +5,7 @@ use Rattle.std.specs.Option.{option_or}
 use Rattle.std.proofs.lemmas.List.{take_more, reverse-append}
 use Rattle.std.proofs.lemmas.List.Folds.{find-append}
 
--- the innermost of some forms, the innermost of which stands last
+-- the last of some forms is the innermost one
 innermost_comes_first : {X Y : Type 0} (test : Y → Bool) (bound : X → List Y) (forms : List X) (i : ℕ) (form : X) → i < length forms →
     find test (flat_map bound (reverse (take (i + 1) forms)))
     ≡ option_or (find test (bound (get_or forms i form))) (find test (flat_map bound (reverse (take i forms))))
@@ -14,7 +14,7 @@ innermost_comes_first test bound forms i form inside =
     ∙ ap (λ xs. find test (flat_map bound xs)) (reverse-append (take i forms) (get_or forms i form ∷ []))
     ∙ find-append test (bound (get_or forms i form)) (flat_map bound (reverse (take i forms)))
 
--- what is found in so many forms is found in the innermost of them, or else in those around it
+-- a name that is found in some forms is found in the innermost of them, or otherwise in those around it
 innermost_is : {X Y : Type 0} (test : Y → Bool) (bound : X → List Y) (forms : List X) (left i : ℕ) (form : X) → left ≡ i + 1 → i < length forms →
     find test (flat_map bound (reverse (take left forms)))
     ≡ option_or (find test (bound (get_or forms i form))) (find test (flat_map bound (reverse (take i forms))))

@@ -1,4 +1,4 @@
--- Where the name is bound of which a rule of the types speaks, by the tokens of a program.
+-- The binder of the name that a rule of types is about, by the tokens of a program.
 use Rattle.std.specs.Prelude.{ℕ, ◌+◌, ◌-◌, ◌==◌, Bool, nat_le, if◌then◌else◌, List, [], ◌++◌, drop, length, reverse, slice_get}
 use Rattle.std.specs.Prelude.{Option, Some, None, option_to_list, codes}
 use Rattle.std.specs.List.{find, flat_map, fold, prefix_len, take_while}
@@ -10,7 +10,7 @@ use Rattle.ame_lex.specs.Reading.{tokens_of}
 use Rattle.ame_lex.specs.Tokens.{spelled}
 use Rattle.ame_term.specs.Shown.{TypeFault, wrong_effect, wrong_sort, no_reference}
 use Rattle.ame_why.specs.declared.parts.Parts.{Parts}
-use Rattle.ame_why.specs.declared.binders.Binding.{Binding}
+use Rattle.ame_why.specs.declared.binders.Binder.{Binder}
 use Rattle.ame_why.specs.Open.{open_before, tokens_or_none}
 use Rattle.ame_why.specs.Placed.{placed_within}
 
@@ -18,7 +18,7 @@ use Rattle.ame_why.specs.Placed.{placed_within}
 abbrev pub is_up_to : ℕ → Token → Bool
 is_up_to place token = nat_le token.start place
 
--- the tokens from the first on that begins behind a place
+-- the tokens from the first one on that begins after a place
 abbrev pub tokens_behind : ℕ → List Token → List Token
 tokens_behind place tokens = drop (prefix_len (is_up_to place) tokens) tokens
 
@@ -28,7 +28,7 @@ depth_after depth Kind.Open = depth + 1
 depth_after depth Kind.Close = depth - 1
 depth_after depth _ = depth
 
--- one more token of a form: where none of its parts is open, it begins the next one
+-- one more token of a form: if none of its parts is open, it begins the next one
 abbrev pub parts_after : Parts → Token → Parts
 parts_after parts token = record { begun = if parts.depth == 0 then parts.begun + 1 else parts.begun; depth = depth_after parts.depth token.kind }
 
@@ -40,12 +40,12 @@ abbrev pub part_at : ℕ → ℕ → List Token → ℕ
 part_at form place tokens = (fold parts_after no_parts (take_while (is_up_to place) (tokens_behind form tokens))).begun - 1
 
 -- which form a word begins, as far as it binds names
-abbrev pub binding_of : List ℕ → Binding
+abbrev pub binding_of : List ℕ → Binder
 binding_of word =
-    if bytes_eq word (codes "let") then Binding.Let
-    else (if bytes_eq word (codes "fn") then Binding.Function
-    else (if bytes_eq word (codes "rec") then Binding.Recursive
-    else Binding.Nothing))
+    if bytes_eq word (codes "let") then Binder.Let
+    else (if bytes_eq word (codes "fn") then Binder.Function
+    else (if bytes_eq word (codes "rec") then Binder.Recursive
+    else Binder.Nothing))
 
 -- the bytes of a token, if there is one
 abbrev pub spelled_or_none : Text → Option Token → List ℕ
@@ -59,13 +59,13 @@ word_at text form tokens = spelled_or_none text (slice_get (tokens_behind form t
 abbrev pub nth_token : List Token → ℕ → List Token
 nth_token tokens n = option_to_list (slice_get tokens n)
 
--- What a form binds in one of its parts, the innermost first, by the tokens behind its parenthesis: `let x e e` its name in the second term,
+-- The names that a form binds in one of its parts, the innermost first, by the tokens after its parenthesis: `let x e e` its name in the second term,
 -- `fn q (x T) e` its parameter in its body, `rec q f (x T) R e` its parameter there, and itself.
-abbrev pub bound_by : Binding → ℕ → List Token → List Token
-bound_by Binding.Let part tokens = if part == 3 then nth_token tokens 1 else []
-bound_by Binding.Function part tokens = if part == 3 then nth_token tokens 3 else []
-bound_by Binding.Recursive part tokens = if part == 5 then nth_token tokens 4 ++ nth_token tokens 2 else []
-bound_by Binding.Nothing part tokens = []
+abbrev pub bound_by : Binder → ℕ → List Token → List Token
+bound_by Binder.Let part tokens = if part == 3 then nth_token tokens 1 else []
+bound_by Binder.Function part tokens = if part == 3 then nth_token tokens 3 else []
+bound_by Binder.Recursive part tokens = if part == 5 then nth_token tokens 4 ++ nth_token tokens 2 else []
+bound_by Binder.Nothing part tokens = []
 
 -- the same of the form that opens there, in the part in which a place is
 abbrev pub bound_in : Text → List Token → ℕ → ℕ → List Token
@@ -83,11 +83,11 @@ bound_within text tokens place forms = flat_map (bound_in text tokens place) (re
 abbrev pub binder_of : Text → List Token → Token → Option Token
 binder_of text tokens name = find (spells text name) (bound_within text tokens name.start (open_before name.start tokens))
 
--- the name of the function, where the form that opens there is a call
+-- the name of the function, if the form that opens there is a call
 abbrev pub called_name : Text → List Token → ℕ → Option Token
 called_name text tokens place = if bytes_eq (word_at text place tokens) (codes "app") then slice_get (tokens_behind place tokens) 1 else None
 
--- the token that may be the name of a function or of a location, where a rule is broken
+-- the token that may be the name of a function or of a location, if a rule is broken there
 abbrev pub told_name : Text → List Token → ℕ → ℕ → Option Token
 told_name text tokens rule place =
     if rule == wrong_effect then called_name text tokens place
@@ -103,15 +103,15 @@ binder_or_none text tokens (Some name) = binder_of text tokens name
 abbrev pub binder_at : Text → List Token → ℕ → ℕ → Option Token
 binder_at text tokens rule place = binder_or_none text tokens (told_name text tokens rule place)
 
--- where a binder is, if there is one
+-- the place of a binder, if there is one
 abbrev pub bound_words : Text → Option Token → List ℕ
 bound_words text None = []
-bound_words text (Some binder) = codes "its name is bound here:\n" ++ placed_within text binder.start
+bound_words text (Some binder) = codes "bound here:\n" ++ placed_within text binder.start
 
--- the tokens of a text that is short enough; none where it has a fault
+-- the tokens of a text that is short enough; none if it has an error
 abbrev pub tokens_known : Text → List Token
 tokens_known text = if nat_le (length text) max_text then tokens_or_none (tokens_of text) else []
 
--- where the function or the location is bound of which a fault speaks, if it is a name
+-- the binder of the function or location that an error is about, if it is a name
 unfoldable pub binder_words : Text → TypeFault → List ℕ
 binder_words text fault = bound_words text (binder_at text (tokens_known text) fault.rule fault.place)

@@ -7,12 +7,12 @@ use Rattle.ame_check.specs.declared.reason.Reason.TheVariants as reason
 use Rattle.ame_why.specs.Placed.{placed_within}
 use Rattle.ame_why.specs.Words.{line_place, line_from, word_place, word_from, IsLastWord}
 
--- where the member's number and the count of steps stand in a line
+-- the places of the member's number and of the count of steps in a line
 abbrev pub member_place : List ℕ → ℕ
-member_place row = word_place row 2
+member_place line = word_place line 2
 
 abbrev pub steps_place : List ℕ → ℕ
-steps_place row = word_place row 3
+steps_place line = word_place line 3
 
 -- the place in a line that a reason speaks of
 abbrev pub IsPlaceOf : Reason → List ℕ → ℕ → Type 0
@@ -36,9 +36,9 @@ steps_told (reason.Taken k l) = Some k
 steps_told (reason.Unused k l) = Some k
 steps_told _ = None
 
--- after so many of the steps of a line, whose count is this word
+-- after some of the steps of a line, whose count is this word
 unfoldable pub steps_words : ℕ → List ℕ → List ℕ
-steps_words k word = codes "after " ++ decimal k ++ codes " of " ++ word ++ codes " steps "
+steps_words k word = codes "after " ++ decimal k ++ codes " of " ++ word ++ codes " steps: "
 
 abbrev pub after_words : List ℕ → Option ℕ → List ℕ
 after_words row None = []
@@ -50,32 +50,32 @@ between before n after = before ++ decimal n ++ after
 
 -- what a member wants that names no location and no device
 abbrev pub plain_words : Wants → List ℕ
-plain_words wants.Block = codes "the fragment has come to a condition that is false: only a `stuck` line ends there"
-plain_words wants.Done = codes "the fragment is a value and makes no further step"
-plain_words wants.Leave = codes "the fragment has come to `unprotected`, and makes its next step by a `free` line"
-plain_words wants.Close = codes "the fragment is at the end of its `unprotected`, which only the last step of a `free` line closes"
-plain_words wants.Tall = codes "the fragment has come to a value that would be more than 1000 high"
-plain_words _ = codes "the fragment has further steps to make before this line may end"
+plain_words wants.Block = codes "condition false here: only a `stuck` line may end here"
+plain_words wants.Done = codes "the task has ended: it makes no further step"
+plain_words wants.Leave = codes "the task has come to `unprotected`: its next step belongs to a `free` line"
+plain_words wants.Close = codes "the task is at the end of its unprotected code: only the last step of a `free` line leaves it"
+plain_words wants.Tall = codes "value nested too deeply: the limit is 1,000 levels"
+plain_words _ = codes "the line ends too early: the task has more steps to make"
 
--- what a member wants where its line doesn't go on
+-- what a member wants when its line stops
 abbrev pub want_words : Wants → List ℕ
-want_words (wants.Read l) = between (codes "the fragment reads location ") l.0 (codes ", which has no value")
-want_words (wants.Peek l) = between (codes "the fragment reads location ") l.0 (codes ", which has no value")
-want_words (wants.Write l) = between (codes "the fragment writes location ") l.0 (codes ", which has no value")
-want_words (wants.Device device n) = between (codes "the fragment calls device ") device (codes ", which only a `free` line does, in its last step")
+want_words (wants.Read l) = between (codes "the task reads location ") l.0 (codes ", which doesn't exist")
+want_words (wants.Peek l) = between (codes "the task reads location ") l.0 (codes ", which doesn't exist")
+want_words (wants.Write l) = between (codes "the task writes location ") l.0 (codes ", which doesn't exist")
+want_words (wants.Device device n) = between (codes "the task calls device ") device (codes ", which only a `free` line does, in its last step")
 want_words want = plain_words want
 
 -- why the entry can't be made
 abbrev pub reason_words : Reason → List ℕ
-reason_words reason.NoMember = codes "there is no fragment of this number here: it has ended, or isn't started yet"
-reason_words reason.Inside = codes "the fragment is under `unprotected`, where it goes on by `free` lines, and ends by a `ran` line only behind it"
-reason_words reason.Outside = codes "the fragment isn't under `unprotected`, where alone it goes on by `free` lines: a `ran` line brings it there"
+reason_words reason.NoMember = codes "no such task here: it has ended or has not been started"
+reason_words reason.Inside = codes "the task is in unprotected code: expected a `free` line"
+reason_words reason.Outside = codes "the task is not in unprotected code: a `ran` line must bring it there before a `free` line"
 reason_words reason.NoSteps = codes "a `free` line makes at least one step"
-reason_words reason.Answered = codes "the last step calls no device, so there is no answer"
-reason_words (reason.Unanswered k) = codes "the fragment calls a device, and the line tells no answer"
-reason_words (reason.Missing k) = codes "the fragment makes a location, and the line tells no further one"
-reason_words (reason.Taken k l) = codes "the fragment makes a location, and this one has a value already"
-reason_words (reason.Unused k l) = codes "the fragment makes no further location, and this one is left"
+reason_words reason.Answered = codes "the last step calls no device: expected no answer"
+reason_words (reason.Unanswered k) = codes "missing answer: the task calls a device"
+reason_words (reason.Missing k) = codes "missing location: the task creates one"
+reason_words (reason.Taken k l) = codes "location already exists"
+reason_words (reason.Unused k l) = codes "unused location: the task creates no more"
 reason_words (reason.Stops k want) = want_words want
 
 abbrev pub entry_message : List ℕ → Reason → List ℕ

@@ -1,4 +1,4 @@
--- How a place of a text is shown.
+-- A place of a text, as it is shown.
 use Rattle.std.specs.Prelude.{ℕ, ◌-◌, ◌++◌, ◌==◌, ◌||◌, ◌&&◌, nat_lt, nat_le, if◌then◌else◌, List, [], length, map, take, drop, codes}
 use Rattle.std.specs.List.{flat_map, after_last, before_first}
 use Rattle.ame_why.specs.Position.{is_feed}
@@ -15,7 +15,7 @@ below_byte b = if b == 9 then codes "\t" else (if nat_le 128 b && nat_lt b 192 t
 unfoldable pub shown_before : List ℕ → List ℕ
 shown_before line = if nat_le (length line) 60 then line else codes "..." ++ drop (length line - 57) line
 
--- the front of a stretch from a place on, at most 40 bytes
+-- the beginning of a stretch from a place on, at most 40 bytes
 unfoldable pub shown_behind : List ℕ → List ℕ
 shown_behind line = if nat_le (length line) 40 then line else take 37 line ++ codes "..."
 

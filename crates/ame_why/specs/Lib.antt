@@ -1,5 +1,4 @@
 pub mod Position
-pub mod Page
 pub mod Excerpt
 pub mod Placed
 pub mod Heading

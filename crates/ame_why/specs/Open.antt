@@ -15,7 +15,7 @@ open_after before start _ = before
 abbrev pub open_before : ℕ → List Token → List ℕ
 open_before place tokens = fold (λ before token. if nat_lt token.start place then open_after before token.start token.kind else before) [] tokens
 
--- the tokens of a text; none where it has a fault
+-- the tokens of a text; none if it has an error
 abbrev pub tokens_or_none : LexOutcome → List Token
 tokens_or_none (Ok tokens) = tokens
 tokens_or_none (Err fault) = []

@@ -8,7 +8,7 @@ unfoldable pub placed_text : List ℕ → ℕ → List ℕ
 placed_text text place =
     codes "line " ++ decimal (line_number text place) ++ codes ", column " ++ decimal (column_of text place) ++ codes ":\n" ++ excerpt text place
 
--- the same of a place that is told of a text, or of the end where the text is shorter
+-- the same for a place in a text, or for its end if the text is shorter
 abbrev pub placed_within : List ℕ → ℕ → List ℕ
 placed_within text place = placed_text text (min place (length text))
 

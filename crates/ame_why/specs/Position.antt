@@ -1,4 +1,4 @@
--- Lines of a text, and where a place is in them.
+-- Lines of a text, and the line of a place.
 use Rattle.std.specs.Prelude.{ℕ, ◌+◌, ◌==◌, Bool, not, List, ◌++◌, length, take, count_by, Option, Some, None, codes, decimal}
 use Rattle.std.specs.List.{after_last}
 use Rattle.ame_why.specs.declared.position.Position.{Position}
@@ -13,11 +13,11 @@ is_within_line b = not (is_feed b)
 abbrev pub line_number : List ℕ → ℕ → ℕ
 line_number text place = count_by is_feed (take place text) + 1
 
--- the column of a place: one more than the bytes behind the last of them
+-- the column of a place: one more than the bytes after the last of them
 abbrev pub column_of : List ℕ → ℕ → ℕ
 column_of text place = length (after_last is_feed (take place text)) + 1
 
--- where a place of a text is
+-- the line and the column of a place
 abbrev pub position : List ℕ → ℕ → Position
 position text place = record { line = line_number text place; column = column_of text place }
 

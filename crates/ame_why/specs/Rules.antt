@@ -1,4 +1,4 @@
--- What a fault of the types shows.
+-- The page of an error of types.
 use Rattle.std.specs.Prelude.{◌++◌, ◌-◌, ◌==◌, ℕ, List, [], Option, Some, None, if◌then◌else◌, length, slice_get, codes, decimal}
 use Rattle.ame_lex.specs.Bytes.{Text}
 use Rattle.ame_lex.specs.declared.tokens.Token.{Token}
@@ -21,7 +21,7 @@ abbrev pub sort_words : Sort → List ℕ
 sort_words Sort.Protected = codes "sort p"
 sort_words Sort.Unprotected = codes "sort u"
 
--- the line of what a fault shows, behind a label, where a device is told with these words; nothing where it shows nothing
+-- a label and what an error shows, on a line; these words introduce a device; nothing if there is nothing to show
 abbrev pub shown_line : List ℕ → List ℕ → Shown → List ℕ
 shown_line label device Shown.Nothing = []
 shown_line label device (Shown.Ty ty) = label ++ type_text ty ++ codes "\n"
@@ -33,50 +33,50 @@ abbrev pub found_line : Shown → List ℕ
 found_line found = shown_line (codes "found: ") (codes "device ") found
 
 abbrev pub wanted_line : Shown → List ℕ
-wanted_line wanted = shown_line (codes "wanted: ") (codes "a device below ") wanted
+wanted_line wanted = shown_line (codes "expected: ") (codes "a device below ") wanted
 
 -- the rule of effects, and that of sorts
 abbrev pub effect_rule : List ℕ
 effect_rule =
-    codes "this call doesn't fit the code around it: protected code calls functions of effect p or a, "
-    ++ codes "unprotected code those of effect u or a, and `call` and `peek` are for unprotected code\n"
+    codes "wrong effect: protected code calls functions of effect `p` or `a`, "
+    ++ codes "unprotected code those of `u` or `a`; `call` and `peek` are for unprotected code\n"
 
 abbrev pub sort_rule : List ℕ
 sort_rule =
-    codes "this location is one of the other code: protected code reads and writes those of sort p, unprotected code those of sort u\n"
+    codes "wrong sort: protected code may only access locations of sort `p`, unprotected code only those of sort `u`\n"
 
 -- a rule in words
 abbrev pub rule_words : ℕ → List ℕ
 rule_words rule =
-    if rule == type_mismatch then codes "this part has another type than its form wants\n"
-    else (if rule == no_function then codes "what is called is no function\n"
+    if rule == type_mismatch then codes "argument with the wrong type\n"
+    else (if rule == no_function then codes "not a function\n"
     else (if rule == wrong_effect then effect_rule
     else (if rule == wrong_sort then sort_rule
-    else (if rule == no_reference then codes "what is read or written is no reference\n"
-    else (if rule == misplaced_block then codes "`blockUntil` is for protected code, since only a fragment is taken back\n"
-    else (if rule == misplaced_unprotected then codes "the code around this is unprotected already\n"
-    else (if rule == no_device then codes "there is no device of this number\n"
-    else (if rule == not_unit then codes "nobody takes what this gives, so it must give Unit\n"
-    else (if rule == no_pair then codes "what is taken apart is no pair\n"
+    else (if rule == no_reference then codes "not a reference\n"
+    else (if rule == misplaced_block then codes "`blockUntil` in unprotected code: only protected code can be rolled back\n"
+    else (if rule == misplaced_unprotected then codes "already in unprotected code\n"
+    else (if rule == no_device then codes "no device with this number\n"
+    else (if rule == not_unit then codes "this result is discarded, so its type must be `Unit`\n"
+    else (if rule == no_pair then codes "not a pair\n"
     else codes "\n")))))))))
 
--- which part of the form that opens there has another type than it wants, and the form's word; where none does, only that a part has
+-- the number of the argument with the wrong type, and its form's word; without a form only that an argument has the wrong type
 abbrev pub mismatch_words : Text → List Token → ℕ → Option ℕ → List ℕ
 mismatch_words text tokens place None = rule_words type_mismatch
 mismatch_words text tokens place (Some form) =
-    codes "part " ++ decimal (part_at form place tokens) ++ codes " of `" ++ word_at text form tokens ++ codes "` has another type than the form wants\n"
+    codes "argument " ++ decimal (part_at form place tokens) ++ codes " of `" ++ word_at text form tokens ++ codes "` has the wrong type\n"
 
--- the innermost of some forms, the innermost of which stands last
+-- the innermost of some forms, which is the last
 abbrev pub innermost : List ℕ → Option ℕ
 innermost forms = slice_get forms (length forms - 1)
 
--- the rule that a fault breaks; of a part with another type, which part it is of which form: the innermost that is open at its place
+-- the rule that is broken; for a wrong type also the argument's number and form: the innermost that is open at its place
 unfoldable pub fault_words : Text → TypeFault → List ℕ
 fault_words text fault =
     let tokens = tokens_known text in
     if fault.rule == type_mismatch then mismatch_words text tokens fault.place (innermost (open_before fault.place tokens)) else rule_words fault.rule
 
--- the place of a fault, the rule in words, where the name is bound of which the rule speaks, and what was found and wanted
+-- the place of an error, the rule in words, the binder of the rule's name, and what was found and expected
 abbrev pub fault_page : Text → TypeFault → List ℕ
 fault_page text fault =
     placed_within text fault.place ++ (fault_words text fault ++ binder_words text fault ++ found_line fault.found ++ wanted_line fault.wanted)

@@ -3,20 +3,20 @@ use Rattle.std.specs.Prelude.{◌≡◌, ◌⊎◌, ℕ, ◌-◌, ◌==◌, ◌&
 use Rattle.std.specs.List.{before_first}
 use Rattle.std.specs.Str.{bytes_eq}
 
--- a text after so many bytes that are a mark
+-- a text after a number of bytes that are a mark
 abbrev pub after_marks : ℕ → ℕ → List ℕ → List ℕ
 after_marks mark n [] = []
 after_marks mark n (b ∷ text) = if n == 0 then b ∷ text else (if b == mark then after_marks mark (n - 1) text else after_marks mark n text)
 
--- the place after so many of them, or the end of a text with fewer
+-- the place after a number of them, or the end of a text with fewer
 abbrev pub place_after : ℕ → ℕ → List ℕ → ℕ
 place_after mark n text = length text - length (after_marks mark n text)
 
--- where a line begins, counted from 1
+-- the beginning of a line, counted from 1
 abbrev pub line_place : List ℕ → ℕ → ℕ
 line_place text line = place_after 10 (line - 1) text
 
--- where a word of a line begins, counted from 0
+-- the beginning of a word of a line, counted from 0
 abbrev pub word_place : List ℕ → ℕ → ℕ
 word_place line n = place_after 32 n line
 

@@ -1,4 +1,4 @@
-//! Where a name is bound of which a fault of the types speaks.
+//! The binder of a name in an error of types.
 
 ghost use Rattle.std.specs.Prelude.{◌≡◌, ◌++◌, [], All, IfOk, IfSome, if◌then◌else◌, option_to_list};
 ghost use Rattle.std.specs.List.{find};
@@ -15,15 +15,14 @@ use std::alloc::Global;
 
 /// Which form binds a name.
 #[derive(Clone, Copy)]
-enum Binding {
+enum Binder {
     Let,
     Function,
     Recursive,
     Nothing,
 }
 
-/// The token that binds the name of a function or of a location where a rule is broken; none where that is no name, or the rule speaks of
-/// neither.
+/// Returns the token that binds the name of the function or location of a broken rule; none if it is no name, or the rule is about neither.
 pub(crate) fn binder_at(
     alloc: Global,
     text: &[u8],
@@ -41,7 +40,7 @@ pub(crate) fn binder_at(
     Ok(binder_of(text, tokens, &places, name))
 }
 
-/// The token that may be the name of a function or of a location, where a rule is broken.
+/// Returns the token that may be the name of a function or of a location, if a rule is broken there.
 fn told_name(text: &[u8], tokens: &[Token], number: u8, place: u32) -> Option<Token>
     requires { All (IsWithin text.now) tokens.now }
     ensures told { result ≡ spec.told_name text.now tokens.now number place }
@@ -55,7 +54,7 @@ fn told_name(text: &[u8], tokens: &[Token], number: u8, place: u32) -> Option<To
     }
 }
 
-/// The name of the function, where the form that opens there is a call.
+/// Returns the name of the function, if the form that opens there is a call.
 fn called_name(text: &[u8], tokens: &[Token], place: u32) -> Option<Token>
     requires { All (IsWithin text.now) tokens.now }
     ensures told { result ≡ spec.called_name text.now tokens.now place }
@@ -68,7 +67,7 @@ fn called_name(text: &[u8], tokens: &[Token], place: u32) -> Option<Token>
     }
 }
 
-/// The token that binds a name which stands in these open parentheses, the innermost last.
+/// Returns the token that binds a name which stands in these open parentheses, the innermost last.
 fn binder_of(text: &[u8], tokens: &[Token], places: &[u32], name: Token) -> Option<Token>
     requires within { All (IsWithin text.now) tokens.now }
     requires name { IsWithin text.now name }
@@ -85,7 +84,7 @@ fn binder_of(text: &[u8], tokens: &[Token], places: &[u32], name: Token) -> Opti
     None
 }
 
-/// The token that binds a name in a form, if the form does.
+/// Returns the token that binds a name in a form, if the form does.
 fn binder_in(text: &[u8], tokens: &[Token], form: u32, name: Token) -> Option<Token>
     requires within { All (IsWithin text.now) tokens.now }
     requires name { IsWithin text.now name }
@@ -93,35 +92,35 @@ fn binder_in(text: &[u8], tokens: &[Token], form: u32, name: Token) -> Option<To
 {
     let part = part_number(tokens, form, name.start);
     match binding_of(word_at(text, tokens, form)) {
-        Binding::Let => same_if(text, part == 3, token_behind(text, tokens, form, 1), name),
-        Binding::Function => same_if(text, part == 3, token_behind(text, tokens, form, 3), name),
-        Binding::Recursive => first_same(
+        Binder::Let => same_if(text, part == 3, token_behind(text, tokens, form, 1), name),
+        Binder::Function => same_if(text, part == 3, token_behind(text, tokens, form, 3), name),
+        Binder::Recursive => first_same(
             text,
             part == 5,
             token_behind(text, tokens, form, 4),
             token_behind(text, tokens, form, 2),
             name,
         ),
-        Binding::Nothing => None,
+        Binder::Nothing => None,
     }
 }
 
-/// Which form a word begins, as far as it binds names.
-fn binding_of(word: &[u8]) -> Binding
+/// Returns which form a word begins, as far as it binds names.
+fn binding_of(word: &[u8]) -> Binder
     ensures { result ≡ spec.binding_of word.now }
 {
     if word == b"let".as_slice() {
-        Binding::Let
+        Binder::Let
     } else if word == b"fn".as_slice() {
-        Binding::Function
+        Binder::Function
     } else if word == b"rec".as_slice() {
-        Binding::Recursive
+        Binder::Recursive
     } else {
-        Binding::Nothing
+        Binder::Nothing
     }
 }
 
-/// The first of two tokens that spells a name, if they are bound there.
+/// Returns the first of two tokens that spells a name, if they are bound there.
 fn first_same(
     text: &[u8],
     is_bound: bool,
@@ -143,7 +142,7 @@ fn first_same(
     }
 }
 
-/// A token, if it is bound there and spells a name.
+/// Returns a token, if it is bound there and spells a name.
 fn same_if(text: &[u8], is_bound: bool, token: Option<Token>, name: Token) -> Option<Token>
     requires within { IfSome token (IsWithin text.now) }
     requires name { IsWithin text.now name }
@@ -156,7 +155,7 @@ fn same_if(text: &[u8], is_bound: bool, token: Option<Token>, name: Token) -> Op
     }
 }
 
-/// A token, if it spells a name.
+/// Returns a token, if it spells a name.
 fn same_name(text: &[u8], token: Option<Token>, name: Token) -> Option<Token>
     requires within { IfSome token (IsWithin text.now) }
     requires name { IsWithin text.now name }
@@ -168,7 +167,7 @@ fn same_name(text: &[u8], token: Option<Token>, name: Token) -> Option<Token>
     }
 }
 
-/// The word of the form that opens at a place.
+/// Returns the word of the form that opens at a place.
 pub(crate) fn word_at<'a>(text: &'a [u8], tokens: &[Token], form: u32) -> &'a [u8]
     requires { All (IsWithin text.now) tokens.now }
     ensures { result.now ≡ spec.word_at text.now form tokens.now }
@@ -179,7 +178,7 @@ pub(crate) fn word_at<'a>(text: &'a [u8], tokens: &[Token], form: u32) -> &'a [u
     }
 }
 
-/// The bytes of a token.
+/// Returns the bytes of a token.
 fn spelled(text: &[u8], token: Token) -> &[u8]
     requires { IsWithin text.now token }
     ensures { result.now ≡ spelled text.now token }

@@ -5,8 +5,8 @@ ghost use Rattle.std.specs.List.{flat_map};
 ghost use Rattle.ame_why.specs.Excerpt as spec;
 ghost use Rattle.ame_why.specs.Excerpt.{shown_byte, below_byte};
 
-use crate::page::append;
 use crate::position::{line_before, line_behind};
+use ame_page::Page;
 use ame_term::NoMemory;
 use std::alloc::Global;
 
@@ -15,10 +15,10 @@ const BEFORE: usize = 60;
 
 const BEHIND: usize = 40;
 
-/// What stands for the rest of a long line.
+/// Replaces the rest of a long line.
 const REST: &[u8; 3] = b"...";
 
-/// The line in which a place is, and below it a caret at the place. Of a long line what is near the place is shown.
+/// Returns the line of a place, and a caret below the place. A long line is shortened to what is near the place.
 pub fn excerpt(alloc: Global, text: &[u8], place: usize) -> Result<Vec<u8>, NoMemory>
     requires { place ≤ length text.now }
     ensures { IfOk result (λ page. page.items ≡ spec.excerpt text.now place) }
@@ -30,71 +30,71 @@ pub fn excerpt(alloc: Global, text: &[u8], place: usize) -> Result<Vec<u8>, NoMe
 }
 
 #[tactic(auto, unfolding(crate::specs::Excerpt::page_lines))]
-/// The two lines: what is shown, and the caret below the end of its front.
+/// Returns the two lines: what is shown, and the caret below the end of its front.
 fn lines(alloc: Global, before: &[u8], behind: &[u8]) -> Result<Vec<u8>, NoMemory>
     ensures { IfOk result (λ page. page.items ≡ spec.page_lines before.now behind.now) }
 {
-    let mut page = Vec::new(alloc);
-    append(&mut page, b"    ")?;
+    let mut page = Page::new(alloc);
+    page.add(b"    ")?;
     append_shown(&mut page, before)?;
     append_shown(&mut page, behind)?;
-    append(&mut page, b"\n    ")?;
+    page.add(b"\n    ")?;
     append_below(&mut page, before)?;
-    append(&mut page, b"^\n")?;
-    Ok(page)
+    page.add(b"^\n")?;
+    Ok(page.into_bytes())
 }
 
-/// The end of a stretch before the place.
+/// Returns the end of a stretch before the place.
 #[tactic(auto, unfolding(crate::specs::Excerpt::shown_before))]
 fn shown_before(alloc: Global, line: &[u8]) -> Result<Vec<u8>, NoMemory>
     ensures { IfOk result (λ shown. shown.items ≡ spec.shown_before line.now) }
 {
-    let mut shown = Vec::new(alloc);
+    let mut shown = Page::new(alloc);
     if line.len() <= BEFORE {
-        append(&mut shown, line)?;
+        shown.add(line)?;
     } else {
-        append(&mut shown, REST)?;
-        append(&mut shown, line.split_at(line.len() - (BEFORE - 3)).1)?;
+        shown.add(REST)?;
+        shown.add(line.split_at(line.len() - (BEFORE - 3)).1)?;
     }
-    Ok(shown)
+    Ok(shown.into_bytes())
 }
 
-/// The front of a stretch from the place on.
+/// Returns the beginning of the rest of a line from the place on.
 #[tactic(auto, unfolding(crate::specs::Excerpt::shown_behind))]
 fn shown_behind(alloc: Global, line: &[u8]) -> Result<Vec<u8>, NoMemory>
     ensures { IfOk result (λ shown. shown.items ≡ spec.shown_behind line.now) }
 {
-    let mut shown = Vec::new(alloc);
+    let mut shown = Page::new(alloc);
     if line.len() <= BEHIND {
-        append(&mut shown, line)?;
+        shown.add(line)?;
     } else {
-        append(&mut shown, line.split_at(BEHIND - 3).0)?;
-        append(&mut shown, REST)?;
+        shown.add(line.split_at(BEHIND - 3).0)?;
+        shown.add(REST)?;
     }
-    Ok(shown)
+    Ok(shown.into_bytes())
 }
 
-/// Adds bytes as they are shown.
-fn append_shown(page: &mut Vec<u8>, bytes: &[u8]) -> Result<(), NoMemory>
-    ensures { OnOk result (page.new.items ≡ page.old.items ++ map shown_byte bytes.now) }
+/// Appends bytes as they are shown.
+fn append_shown(page: &mut Page, bytes: &[u8]) -> Result<(), NoMemory>
+    ensures { OnOk result (page.new ≡ page.old ++ map shown_byte bytes.now) }
 {
     for byte in bytes {
-        page.push(shown_byte(*byte))?;
+        page.add_byte(shown_byte(*byte))?;
     }
     Ok(())
 }
 
-/// Adds what stands below bytes, so that what follows is below what follows them.
-fn append_below(page: &mut Vec<u8>, bytes: &[u8]) -> Result<(), NoMemory>
-    ensures { OnOk result (page.new.items ≡ page.old.items ++ flat_map below_byte bytes.now) }
+/// Appends what stands below bytes, so that what follows is below what follows them.
+fn append_below(page: &mut Page, bytes: &[u8]) -> Result<(), NoMemory>
+    ensures { OnOk result (page.new ≡ page.old ++ flat_map below_byte bytes.now) }
 {
     for byte in bytes {
-        append(page, below_byte(*byte))?;
+        page.add(below_byte(*byte))?;
     }
     Ok(())
 }
 
-/// A byte as it is shown.
+/// Returns a byte as it is shown.
 fn shown_byte(byte: u8) -> u8
     ensures { result ≡ shown_byte byte }
 {
@@ -106,7 +106,7 @@ fn shown_byte(byte: u8) -> u8
     }
 }
 
-/// What stands below a byte: nothing below one that goes on a character.
+/// Returns what stands below a byte: nothing below one that goes on a character.
 fn below_byte(byte: u8) -> &'static [u8]
     ensures { result.now ≡ below_byte byte }
 {

@@ -4,11 +4,11 @@ ghost use Rattle.std.specs.Prelude.{◌≡◌, ◌++◌, ◌≤◌, IfOk, OnOk, 
 ghost use Rattle.ame_why.specs.Certificates as spec;
 ghost use Rattle.ame_why.specs.Words.{IsLastWord};
 
-use crate::page::{append, append_decimal};
 use crate::placed::explained;
 use crate::words::{line_from, line_start, start_of, word_from, word_start};
 use ame_check::Reason;
 use ame_machine::Wants;
+use ame_page::Page;
 use ame_term::{Loc, NoMemory};
 use itoa::Buffer;
 use std::alloc::Global;
@@ -46,7 +46,7 @@ fn place_in(row: &[u8], why: &Reason) -> usize
     }
 }
 
-/// Returns where a location stands in a line.
+/// Returns the place of a location in a line.
 fn start_of_location(row: &[u8], location: Loc) -> usize
     ensures there { IsLastWord row.now (decimal location.0) result }
     ensures within { result ≤ length row.now }
@@ -59,11 +59,11 @@ fn start_of_location(row: &[u8], location: Loc) -> usize
 fn message_of(alloc: Global, row: &[u8], why: &Reason) -> Result<Vec<u8>, NoMemory>
     ensures { IfOk result (λ message. message.items ≡ spec.entry_message row.now why.now) }
 {
-    let mut message = Vec::new(alloc);
+    let mut message = Page::new(alloc);
     append_after(&mut message, row, steps_told(why))?;
     append_reason(&mut message, why)?;
-    append(&mut message, b"\n")?;
-    Ok(message)
+    message.add(b"\n")?;
+    Ok(message.into_bytes())
 }
 
 /// Returns after how many of the steps a reason speaks of them.
@@ -82,8 +82,8 @@ fn steps_told(why: &Reason) -> Option<u64>
 }
 
 /// Appends after how many of the line's steps it is so.
-fn append_after(message: &mut Vec<u8>, row: &[u8], steps: Option<u64>) -> Result<(), NoMemory>
-    ensures { OnOk result (message.new.items ≡ message.old.items ++ spec.after_words row.now steps) }
+fn append_after(message: &mut Page, row: &[u8], steps: Option<u64>) -> Result<(), NoMemory>
+    ensures { OnOk result (message.new ≡ message.old ++ spec.after_words row.now steps) }
 {
     match steps {
         Some(steps) => append_steps(message, steps, word_from(row, word_start(row, 3))),
@@ -92,97 +92,75 @@ fn append_after(message: &mut Vec<u8>, row: &[u8], steps: Option<u64>) -> Result
 }
 
 #[tactic(auto, unfolding(crate::specs::Certificates::steps_words))]
-fn append_steps(message: &mut Vec<u8>, steps: u64, word: &[u8]) -> Result<(), NoMemory>
-    ensures { OnOk result (message.new.items ≡ message.old.items ++ spec.steps_words steps word.now) }
+fn append_steps(message: &mut Page, steps: u64, word: &[u8]) -> Result<(), NoMemory>
+    ensures { OnOk result (message.new ≡ message.old ++ spec.steps_words steps word.now) }
 {
-    append(message, b"after ")?;
-    append_decimal(message, steps)?;
-    append(message, b" of ")?;
-    append(message, word)?;
-    append(message, b" steps ")
+    message.add(b"after ")?;
+    message.add_number(steps)?;
+    message.add(b" of ")?;
+    message.add(word)?;
+    message.add(b" steps: ")
 }
 
 /// Appends a reason.
-fn append_reason(message: &mut Vec<u8>, why: &Reason) -> Result<(), NoMemory>
-    ensures { OnOk result (message.new.items ≡ message.old.items ++ spec.reason_words why.now) }
+fn append_reason(message: &mut Page, why: &Reason) -> Result<(), NoMemory>
+    ensures { OnOk result (message.new ≡ message.old ++ spec.reason_words why.now) }
 {
     match why {
         Reason::Stops(_, want) => append_want(message, *want),
-        Reason::NoMember => append(
-            message,
-            b"there is no fragment of this number here: it has ended, or isn't started yet",
+        Reason::NoMember => message.add(b"no such task here: it has ended or has not been started"),
+        Reason::Inside => message.add(b"the task is in unprotected code: expected a `free` line"),
+        Reason::Outside => message.add(
+            b"the task is not in unprotected code: a `ran` line must bring it there before a `free` line",
         ),
-        Reason::Inside => append(
-            message,
-            b"the fragment is under `unprotected`, where it goes on by `free` lines, and ends by a `ran` line only behind it",
-        ),
-        Reason::Outside => append(
-            message,
-            b"the fragment isn't under `unprotected`, where alone it goes on by `free` lines: a `ran` line brings it there",
-        ),
-        Reason::NoSteps => append(message, b"a `free` line makes at least one step"),
-        Reason::Answered => append(
-            message,
-            b"the last step calls no device, so there is no answer",
-        ),
-        Reason::Unanswered(_) => append(
-            message,
-            b"the fragment calls a device, and the line tells no answer",
-        ),
-        Reason::Missing(_) => append(
-            message,
-            b"the fragment makes a location, and the line tells no further one",
-        ),
-        Reason::Taken(_, _) => append(
-            message,
-            b"the fragment makes a location, and this one has a value already",
-        ),
-        Reason::Unused(_, _) => append(
-            message,
-            b"the fragment makes no further location, and this one is left",
-        ),
+        Reason::NoSteps => message.add(b"a `free` line makes at least one step"),
+        Reason::Answered => message.add(b"the last step calls no device: expected no answer"),
+        Reason::Unanswered(_) => message.add(b"missing answer: the task calls a device"),
+        Reason::Missing(_) => message.add(b"missing location: the task creates one"),
+        Reason::Taken(_, _) => message.add(b"location already exists"),
+        Reason::Unused(_, _) => message.add(b"unused location: the task creates no more"),
     }
 }
 
 /// Appends what a member wants, by which it doesn't do what its line says.
-fn append_want(message: &mut Vec<u8>, want: Wants) -> Result<(), NoMemory>
-    ensures { OnOk result (message.new.items ≡ message.old.items ++ spec.want_words want) }
+fn append_want(message: &mut Page, want: Wants) -> Result<(), NoMemory>
+    ensures { OnOk result (message.new ≡ message.old ++ spec.want_words want) }
 {
     match want {
         Wants::Read(location) | Wants::Peek(location) => append_between(
             message,
-            b"the fragment reads location ",
+            b"the task reads location ",
             u64::from(location.0),
-            b", which has no value",
+            b", which doesn't exist",
         ),
         Wants::Write(location) => append_between(
             message,
-            b"the fragment writes location ",
+            b"the task writes location ",
             u64::from(location.0),
-            b", which has no value",
+            b", which doesn't exist",
         ),
         Wants::Device(device, _) => append_between(
             message,
-            b"the fragment calls device ",
+            b"the task calls device ",
             u64::from(device),
             b", which only a `free` line does, in its last step",
         ),
-        _ => append(message, want_words(want)),
+        _ => message.add(want_words(want)),
     }
 }
 
 /// Appends a number between words.
 fn append_between(
-    message: &mut Vec<u8>,
+    message: &mut Page,
     before: &[u8],
     number: u64,
     after: &[u8],
 ) -> Result<(), NoMemory>
-    ensures { OnOk result (message.new.items ≡ message.old.items ++ spec.between before.now number after.now) }
+    ensures { OnOk result (message.new ≡ message.old ++ spec.between before.now number after.now) }
 {
-    append(message, before)?;
-    append_decimal(message, number)?;
-    append(message, after)
+    message.add(before)?;
+    message.add_number(number)?;
+    message.add(after)
 }
 
 /// Returns what a member wants that names no location and no device, in words.
@@ -190,14 +168,13 @@ fn want_words(want: Wants) -> &'static [u8]
     ensures { result.now ≡ spec.plain_words want }
 {
     match want {
-        Wants::Block =>
-            b"the fragment has come to a condition that is false: only a `stuck` line ends there",
-        Wants::Done => b"the fragment is a value and makes no further step",
+        Wants::Block => b"condition false here: only a `stuck` line may end here",
+        Wants::Done => b"the task has ended: it makes no further step",
         Wants::Leave =>
-            b"the fragment has come to `unprotected`, and makes its next step by a `free` line",
+            b"the task has come to `unprotected`: its next step belongs to a `free` line",
         Wants::Close =>
-            b"the fragment is at the end of its `unprotected`, which only the last step of a `free` line closes",
-        Wants::Tall => b"the fragment has come to a value that would be more than 1000 high",
-        _ => b"the fragment has further steps to make before this line may end",
+            b"the task is at the end of its unprotected code: only the last step of a `free` line leaves it",
+        Wants::Tall => b"value nested too deeply: the limit is 1,000 levels",
+        _ => b"the line ends too early: the task has more steps to make",
     }
 }

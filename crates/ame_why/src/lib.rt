@@ -7,7 +7,6 @@ mod caret;
 mod entry;
 mod heading;
 mod journal_line;
-pub mod page;
 mod parts;
 mod placed;
 mod position;

@@ -1,4 +1,4 @@
-//! Which part of which form stands at a place.
+//! The part of a form that stands at a place.
 
 ghost use Rattle.std.specs.Prelude.{◌≡◌, ◌<◌, ◌≤◌, ◌^◌, All, IfSome, length, slice_get};
 ghost use Rattle.std.specs.List.{prefix_len, take_while};
@@ -8,28 +8,28 @@ ghost use Rattle.ame_why.specs.Binders.{is_up_to};
 
 use ame_lex::{Kind, Token};
 
-/// How far a form was gone through: how many of its parts have begun, its word among them, and how many parentheses are open in the last one.
+/// The progress through a form: how many of its parts have begun, its word among them, and how many parentheses are open in the last one.
 #[derive(Clone, Copy)]
 struct Parts {
     begun: usize,
     depth: usize,
 }
 
-/// The tokens from the first one on that begins behind a place.
+/// Returns the tokens from the first one on that begins after a place.
 pub(crate) fn tokens_behind<'a>(tokens: &'a [Token], place: u32) -> &'a [Token]
     ensures { result.now ≡ spec.tokens_behind place tokens.now }
 {
     tokens.split_at(count_up_to(tokens, place)).1
 }
 
-/// The tokens up to the first one that begins behind a place.
+/// Returns the tokens up to the first one that begins after a place.
 fn tokens_up_to<'a>(tokens: &'a [Token], place: u32) -> &'a [Token]
     ensures { result.now ≡ take_while (is_up_to place) tokens.now }
 {
     tokens.split_at(count_up_to(tokens, place)).0
 }
 
-/// How many tokens stand before the first one that begins behind a place.
+/// Returns how many tokens stand before the first one that begins after a place.
 fn count_up_to(tokens: &[Token], place: u32) -> usize
     ensures value { result ≡ prefix_len (is_up_to place) tokens.now }
     ensures within { result ≤ length tokens.now }
@@ -40,7 +40,7 @@ fn count_up_to(tokens: &[Token], place: u32) -> usize
         .count()
 }
 
-/// The token behind a parenthesis with this number, counted from 0. The first one says what the form is.
+/// Returns the token after a parenthesis with this number, counted from 0. The first one is the word of the form.
 pub(crate) fn token_behind(text: &[u8], tokens: &[Token], form: u32, number: usize) -> Option<Token>
     requires { All (IsWithin text.now) tokens.now }
     ensures told { result ≡ slice_get (spec.tokens_behind form tokens.now) number }
@@ -49,7 +49,7 @@ pub(crate) fn token_behind(text: &[u8], tokens: &[Token], form: u32, number: usi
     tokens_behind(tokens, form).get(number).copied()
 }
 
-/// In which part of the form that opens there a place is, counted from 1 behind the form's word.
+/// Returns the number of the part in which a place is, counted from 1 after the form's word.
 pub(crate) fn part_number(tokens: &[Token], form: u32, place: u32) -> usize
     ensures { result ≡ spec.part_at form place tokens.now }
 {
@@ -61,7 +61,7 @@ pub(crate) fn part_number(tokens: &[Token], form: u32, place: u32) -> usize
     parts.begun.saturating_sub(1)
 }
 
-/// What was gone through with one more token.
+/// Returns what was gone through with one more token.
 fn parts_after(parts: Parts, token: &Token) -> Parts
     requires begun { parts.begun < 2 ^ 63 }
     requires depth { parts.depth < 2 ^ 63 }
@@ -77,7 +77,7 @@ fn parts_after(parts: Parts, token: &Token) -> Parts
     }
 }
 
-/// How many parentheses are open after a token.
+/// Returns how many parentheses are open after a token.
 fn depth_after(depth: usize, kind: Kind) -> usize
     requires { depth < 2 ^ 63 }
     ensures { result ≡ spec.depth_after depth kind }

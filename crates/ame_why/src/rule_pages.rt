@@ -2,7 +2,7 @@
 
 use ame_types::rule;
 
-/// A rule of the types in words, with a text that breaks it and one that doesn't; nothing where no rule has this number.
+/// Returns a rule of the types in words, with a text that breaks it and one that doesn't; nothing if no rule has this number.
 pub fn explain_rule(number: u8) -> Option<&'static [u8]> {
     match number {
         rule::TYPE_MISMATCH => Some(TYPE_MISMATCH),
@@ -37,7 +37,7 @@ unprotected code those of effect u or a; `call` and `peek` are for unprotected c
 ";
 
 const WRONG_SORT: &[u8] =
-    b"rule 4: protected code reads and writes locations of sort p, unprotected code those of sort u
+    b"rule 4: protected code reads and writes locations of sort p, unprotected code only those of sort `u`
   wrong  (let r (ref u 1) (print (get r)))
   right  (let r (ref p 1) (print (get r)))
 ";

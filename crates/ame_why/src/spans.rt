@@ -1,4 +1,4 @@
-//! What stands at a place of a text, and what is open there.
+//! The token at a place of a text, and the forms that are open there.
 
 ghost use Rattle.std.specs.Prelude.{◌≡◌, ◌==◌, ◌≤◌, All, IfOk, IfSome, OnOk, length};
 ghost use Rattle.std.specs.List.{find};
@@ -12,7 +12,7 @@ use ame_lex::{Kind, LexFault, Token, lex};
 use ame_term::NoMemory;
 use std::alloc::Global;
 
-/// The tokens of a text; none where it has none.
+/// Returns the tokens of a text, or none if the text has an error.
 pub fn tokens_of(alloc: Global, text: &[u8]) -> Result<Vec<Token>, NoMemory>
     requires { length text.now ≤ max_text }
     ensures tokens { IfOk result (λ tokens. tokens.items ≡ tokens_or_none (reading.tokens_of text.now)) }
@@ -25,7 +25,7 @@ pub fn tokens_of(alloc: Global, text: &[u8]) -> Result<Vec<Token>, NoMemory>
     }
 }
 
-/// The first token that begins at a place.
+/// Returns the first token that begins at a place.
 pub(crate) fn token_at(text: &[u8], tokens: &[Token], place: u32) -> Option<Token>
     requires { All (IsWithin text.now) tokens.now }
     ensures told { result ≡ find (λ token. token.start == place) tokens.now }
@@ -39,7 +39,7 @@ pub(crate) fn token_at(text: &[u8], tokens: &[Token], place: u32) -> Option<Toke
     None
 }
 
-/// The places of the parentheses that are open before a place, the innermost last.
+/// Returns the places of the parentheses that are open before a place, the innermost last.
 pub(crate) fn open_before(alloc: Global, tokens: &[Token], place: u32) -> Result<Vec<u32>, NoMemory>
     ensures { IfOk result (λ places. places.items ≡ spec.open_before place tokens.now) }
 {

@@ -6,10 +6,10 @@ ghost use Rattle.ame_lex.specs.Tokens.{IsWithin};
 ghost use Rattle.ame_parse.specs.Fault.{place_of};
 ghost use Rattle.ame_why.specs.Placed.{IsExplained};
 
-use crate::page::append;
 use crate::placed::explained;
 use crate::spans::{open_before, token_at, tokens_of};
 use ame_lex::{Kind, Token};
+use ame_page::Page;
 use ame_parse::{ParseFault, Want};
 use ame_term::NoMemory;
 use std::alloc::Global;
@@ -17,7 +17,7 @@ use std::alloc::Global;
 /// The most bytes of a token that are shown.
 const SHOWN: usize = 40;
 
-/// Why tokens are no program.
+/// Returns why tokens are no program.
 pub fn explain_tokens(alloc: Global, text: &[u8], fault: ParseFault) -> Result<Vec<u8>, NoMemory>
     requires small { length text.now ≤ max_text }
     ensures { IfOk result (λ page. IsExplained text.now (place_of fault) page.items) }
@@ -29,49 +29,50 @@ pub fn explain_tokens(alloc: Global, text: &[u8], fault: ParseFault) -> Result<V
             alloc,
             text,
             place as usize,
-            b"at most 200 parentheses may be open, and this would be one more\n",
+            b"too many open parentheses: the limit is 200\n",
         ),
         ParseFault::Trailing(place) => explained(
             alloc,
             text,
             place as usize,
-            b"a program is one term, and ends before this; `(do ..)` puts terms in a row\n",
+            b"text after the end of the program: a program is one term; to run several in order, write `(do ..)`\n",
         ),
         ParseFault::NoMemory => Err(NoMemory),
     }
 }
 
-/// What was expected, what was found, and which form isn't closed.
+/// Returns what was expected, what was found, and which form isn't closed.
 fn unexpected(alloc: Global, text: &[u8], place: u32, want: Want) -> Result<Vec<u8>, NoMemory>
     requires small { length text.now ≤ max_text }
     ensures { IfOk result (λ page. IsExplained text.now place page.items) }
 {
     let tokens = tokens_of(alloc, text)?;
     let found = token_at(text, &tokens, place);
-    let mut message = Vec::new(alloc);
-    append(&mut message, b"expected ")?;
-    append(&mut message, wanted(want))?;
-    append(&mut message, b", found ")?;
+    let mut message = Page::new(alloc);
+    message.add(b"expected ")?;
+    message.add(wanted(want))?;
+    message.add(b", found ")?;
     append_found(&mut message, text, found)?;
-    append(&mut message, hint(want, found))?;
+    message.add(hint(want, found))?;
     if found.is_none() || want == Want::Closing {
         append_open(alloc, &mut message, text, &tokens, place)?;
     }
-    explained(alloc, text, place as usize, &message)
+    explained(alloc, text, place as usize, message.as_slice())
 }
 
-/// The name that nothing binds.
+/// Returns the name that nothing binds.
 fn unknown(alloc: Global, text: &[u8], place: u32) -> Result<Vec<u8>, NoMemory>
     requires small { length text.now ≤ max_text }
     ensures { IfOk result (λ page. IsExplained text.now place page.items) }
 {
     let tokens = tokens_of(alloc, text)?;
-    let mut message = Vec::from_slice(alloc, b"nothing around this place binds the name ")?;
+    let mut message = Page::new(alloc);
+    message.add(b"unbound name ")?;
     append_found(&mut message, text, token_at(text, &tokens, place))?;
-    explained(alloc, text, place as usize, &message)
+    explained(alloc, text, place as usize, message.as_slice())
 }
 
-/// What must stand somewhere, in words.
+/// Returns what must stand somewhere, in words.
 fn wanted(want: Want) -> &'static [u8] {
     match want {
         Want::Term => b"a term",
@@ -86,42 +87,42 @@ fn wanted(want: Want) -> &'static [u8] {
     }
 }
 
-/// What often is meant.
+/// Returns what often is meant.
 fn hint(want: Want, found: Option<Token>) -> &'static [u8] {
     match (want, found.map(|token| token.kind)) {
         (Want::Form, Some(Kind::Word)) => b"a call is written `(app f x)`\n",
         (Want::Form, Some(Kind::Number(_))) => {
             b"a `-` directly before a digit belongs to the number: write `(- 1 2)`\n"
         }
-        (Want::Name, Some(Kind::Word)) => b"this word is reserved\n",
-        (Want::Term, Some(Kind::Word)) => b"this word is reserved; a form begins with `(`\n",
-        (Want::Term, Some(Kind::Close)) => b"a part is missing\n",
+        (Want::Name, Some(Kind::Word)) => b"reserved word\n",
+        (Want::Term, Some(Kind::Word)) => b"reserved word: a form begins with `(`\n",
+        (Want::Term, Some(Kind::Close)) => b"missing argument\n",
         _ => b"",
     }
 }
 
-/// Adds the token that was found, or that the text ends.
-fn append_found(message: &mut Vec<u8>, text: &[u8], found: Option<Token>) -> Result<(), NoMemory>
+/// Appends the token that was found, or that the text ends.
+fn append_found(message: &mut Page, text: &[u8], found: Option<Token>) -> Result<(), NoMemory>
     requires { IfSome found (IsWithin text.now) }
 {
     let Some(token) = found else {
-        return append(message, b"the end of the text\n");
+        return message.add(b"the end of the text\n");
     };
     let spelled = &text[token.start as usize..token.end as usize];
-    append(message, b"`")?;
+    message.add(b"`")?;
     if spelled.len() <= SHOWN {
-        append(message, spelled)?;
+        message.add(spelled)?;
     } else {
-        append(message, spelled.split_at(SHOWN).0)?;
-        append(message, b"..")?;
+        message.add(spelled.split_at(SHOWN).0)?;
+        message.add(b"..")?;
     }
-    append(message, b"`\n")
+    message.add(b"`\n")
 }
 
-/// Adds where the innermost parenthesis is that is open before a place.
+/// Appends the place of the innermost parenthesis that is open before a place.
 fn append_open(
     alloc: Global,
-    message: &mut Vec<u8>,
+    message: &mut Page,
     text: &[u8],
     tokens: &[Token],
     place: u32,
@@ -131,6 +132,6 @@ fn append_open(
         return Ok(());
     };
     let page = explained(alloc, text, *at as usize, b"")?;
-    append(message, b"the parenthesis that is to be closed:\n")?;
-    append(message, &page)
+    message.add(b"opened here:\n")?;
+    message.add(&page)
 }

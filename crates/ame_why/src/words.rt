@@ -21,7 +21,7 @@ fn place_after(text: &[u8], mark: u8, count: u64) -> usize
     text.len()
 }
 
-/// Returns where a line begins that is counted from 1, or the end if there are fewer.
+/// Returns the beginning of a line, counted from 1, or the end if there are fewer lines.
 pub(crate) fn line_start(text: &[u8], line: u64) -> usize
     ensures value { result ≡ spec.line_place text.now line }
     ensures within { result ≤ length text.now }
@@ -29,7 +29,7 @@ pub(crate) fn line_start(text: &[u8], line: u64) -> usize
     place_after(text, b'\n', line.saturating_sub(1))
 }
 
-/// Returns where a word of a line begins, counted from 0, or the end if there are fewer.
+/// Returns the beginning of a word of a line, counted from 0, or the end if there are fewer words.
 pub(crate) fn word_start(line: &[u8], index: u64) -> usize
     ensures value { result ≡ spec.word_place line.now index }
     ensures within { result ≤ length line.now }
@@ -88,7 +88,7 @@ fn is_word(line: &[u8], sought: &[u8], place: usize) -> bool
     begins_word(line, place) && word_from(line, place) == sought
 }
 
-/// Returns where the last of the words begins that are these bytes, or the end if there is none.
+/// Returns the beginning of the last word that has these bytes, or the end if there is none.
 pub(crate) fn start_of(line: &[u8], sought: &[u8]) -> usize
     ensures last { spec.IsLastWord line.now sought.now result }
     ensures within { result ≤ length line.now }

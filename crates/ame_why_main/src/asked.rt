@@ -1,12 +1,12 @@
-//! What the words ask for, beside those that `ame` has.
+//! The words that ask for a view.
 
 use ame_cli::Verb;
 use std::alloc::{AllocError, Global};
 
-/// What is shown.
+/// A view, or none.
 #[derive(Clone, Copy, PartialEq, Eq, Debug)]
 pub enum View {
-    /// What `ame` writes, and an explanation.
+    /// The output of `ame`, and an explanation.
     Why,
     /// The journal of the run, and the program.
     Journal,
@@ -14,20 +14,20 @@ pub enum View {
     Trace,
     /// The schedule of a run on one thread, and the program.
     Schedule,
-    /// What was counted.
+    /// The counts of the run.
     Counts,
-    /// What the locations hold that are left.
+    /// The values of the locations that are left.
     Store,
     /// The picture of the run.
     Picture,
-    /// What happened in the run, for a viewer of traces.
+    /// The events of the run, for a viewer of traces.
     Events,
     /// The labels of the run, with the terms that they reduce.
     Steps,
 }
 
 impl View {
-    /// The view for which a word asks.
+    /// Returns the view for which a word asks.
     fn named(word: &str) -> Option<View> {
         match word {
             "--journal" => Some(View::Journal),
@@ -42,7 +42,7 @@ impl View {
         }
     }
 
-    /// Whether what is shown is a file for another program, so that nothing may stand behind it.
+    /// Returns whether a view is a file for another program, so that nothing may follow it.
     pub fn is_input(self) -> bool {
         matches!(
             self,
@@ -51,14 +51,14 @@ impl View {
     }
 }
 
-/// What is shown, and the file with which it is compared.
+/// A view, and the file with which it is compared.
 #[derive(Drop)]
 pub struct Asked {
     pub view: View,
     pub same: Option<String>,
 }
 
-/// The words of each call: `--then` stands between two.
+/// Returns the words of each call: `--then` stands between two.
 pub fn calls_of(alloc: Global, words: Vec<String>) -> Result<Vec<Vec<String>>, AllocError> {
     let mut calls = Vec::new(alloc);
     let mut call = Vec::new(alloc);
@@ -88,7 +88,7 @@ pub fn asked_of(words: &mut Vec<String>) -> Asked {
     }
 }
 
-/// Takes `--same` and the name behind it out, wherever they stand.
+/// Takes out `--same` and the name after it, in any place.
 fn same_of(words: &mut Vec<String>) -> Option<String> {
     for at in 0..words.len() {
         if at + 1 < words.len() && words[at].as_str() == "--same" {
@@ -110,7 +110,7 @@ fn view_of(words: &mut Vec<String>) -> View {
     View::Why
 }
 
-/// Takes the name of a file, where it comes first. `-` is the standard input.
+/// Takes out the name of a file, if it comes first. `-` is the standard input.
 pub fn file_of(words: &mut Vec<String>) -> Option<String> {
     match words.first() {
         Some(word) if word.as_str() == "-" => {
@@ -122,7 +122,7 @@ pub fn file_of(words: &mut Vec<String>) -> Option<String> {
     }
 }
 
-/// Whether a word is none that `ame` has.
+/// Returns whether a word is none that `ame` has.
 fn is_file(word: &str) -> bool {
     Verb::named(word).is_none() && !word.starts_with('-')
 }

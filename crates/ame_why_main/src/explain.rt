@@ -1,4 +1,4 @@
-//! What a person wants to know of how a call ended.
+//! The reasons for the end of a call.
 
 ghost use Rattle.std.specs.Prelude.{◌≤◌, vec_len};
 ghost use Rattle.ame_lex.specs.Bytes.{max_text};
@@ -16,15 +16,15 @@ use ame_why::{
 };
 use std::alloc::Global;
 
-/// The most steps of a fragment that are made once more, to find where it stands.
+/// The most steps of a fragment that are repeated to find its place.
 const MOST_STEPS: u64 = 10_000_000;
 
-/// What is said of one with more.
+/// The answer for a fragment with more.
 const TOO_MANY: &[u8] =
-    b"where the fragment stands that was at work isn't looked for, since it made more than 10,000,000 steps\n";
+    b"the task at work made more than 10,000,000 steps, so its place is not looked for\n";
 
-/// Why a call ended as it did: of a text that is refused its name with the line, the column and the verdict; and then the place in the text,
-/// or in the bytes that it was given where they are a certificate.
+/// Returns why a call ended as it did. For a text that is refused it begins with the text's name, line, column and verdict. Then comes the place
+/// in the text, or in the bytes of a certificate.
 pub fn explain<K>(
     alloc: Global,
     report: &Report<K, StandardDevice>,
@@ -50,7 +50,7 @@ pub fn explain<K>(
     Ok(page)
 }
 
-/// The place in a text at which it is refused.
+/// Returns the place in a text at which it is refused.
 pub fn place_of(status: &Status) -> Option<u32> {
     match status {
         Status::Text(TextFault::Lexical(LexFault::BadByte(place) | LexFault::LongNumber(place))) =>
@@ -67,7 +67,7 @@ pub fn place_of(status: &Status) -> Option<u32> {
     }
 }
 
-/// Adds why a call ended as it did.
+/// Appends why a call ended as it did.
 fn append_reason<K>(
     page: &mut Vec<u8>,
     report: &Report<K, StandardDevice>,
@@ -94,19 +94,19 @@ fn append_reason<K>(
     Ok(())
 }
 
-/// That nobody will go on, and where each fragment waits.
+/// Returns that no task can go on, and the place of each.
 fn blocked<K>(alloc: Global, report: &Report<K, StandardDevice>) -> Result<Vec<u8>, NoMemory>
     requires small { vec_len report.now.text ≤ max_text }
 {
     let mut page = Vec::from_slice(
         alloc,
-        b"each fragment that is left waits for a condition that nobody will make true\n",
+        b"every remaining task is blocked on a false condition that no task can make true\n",
     )?;
     page.extend_from_slice(&waiting(alloc, report)?)?;
     Ok(page)
 }
 
-/// Where each fragment waits, and what it read; where that isn't found, behind how many steps.
+/// Returns the place of each blocked task, and its reads; if the place isn't found, the number of steps.
 fn waiting<K>(alloc: Global, report: &Report<K, StandardDevice>) -> Result<Vec<u8>, NoMemory>
     requires small { vec_len report.now.text ≤ max_text }
 {
@@ -121,7 +121,7 @@ fn waiting<K>(alloc: Global, report: &Report<K, StandardDevice>) -> Result<Vec<u
     waits_of(alloc, certificates)
 }
 
-/// Why a run ended before its fragments did, and where the one stands that was cut off, or came to a value that is too high.
+/// Returns why a run ended before its tasks did, and the place of the task that was cut off, or came to a value that is nested too deeply.
 fn halted<K>(alloc: Global, report: &Report<K, StandardDevice>) -> Result<Vec<u8>, NoMemory>
     requires small { vec_len report.now.text ≤ max_text }
 {
@@ -130,7 +130,7 @@ fn halted<K>(alloc: Global, report: &Report<K, StandardDevice>) -> Result<Vec<u8
     Ok(page)
 }
 
-/// Where the fragment of the last note stands, and what it read; nothing where no fragment was cut off, or that isn't found.
+/// Returns the place of the last note's task, and its reads; nothing if no task was cut off, or the place isn't found.
 fn halting<K>(alloc: Global, report: &Report<K, StandardDevice>) -> Result<Vec<u8>, NoMemory>
     requires small { vec_len report.now.text ≤ max_text }
 {
@@ -154,30 +154,29 @@ fn halting<K>(alloc: Global, report: &Report<K, StandardDevice>) -> Result<Vec<u
     Ok(told.unwrap_or(Vec::new(alloc)))
 }
 
-/// Which file can't be read, and why.
+/// Returns which file can't be read, and why.
 fn unread(alloc: Global, origin: Origin<'_>) -> Result<Vec<u8>, NoMemory> {
     let mut page = Vec::from_slice(alloc, origin.name.as_bytes())?;
     page.extend_from_slice(b": ")?;
     match origin.fault {
         Some(fault) => page.extend_from_slice(fault.as_bytes())?,
-        None => page.extend_from_slice(b"the text can't be read")?,
+        None => page.extend_from_slice(b"unreadable text")?,
     }
     page.push(b'\n')?;
     Ok(page)
 }
 
-/// What is to be said of a call without a place in its text.
+/// Returns what is to be said of a call without a place in its text.
 fn remark(status: &Status) -> &'static [u8] {
     match status {
-        Status::Spent => b"all turns were made, and fragments are left; `--turns` allows more\n",
+        Status::Spent => b"turn limit reached with tasks left: raise it with `--turns`\n",
         Status::Usage =>
-            b"the words are those of `ame`, and one view; `./why --help` tells them, docs/ame.1 and docs/why.1 say more\n",
-        Status::TooLong => b"a text has at most 1048576 bytes\n",
+            b"unknown command or option: see `./why --help`, docs/ame.1 and docs/why.1\n",
+        Status::TooLong => b"text too long: the limit is 1048576 bytes\n",
         Status::BadSchedule =>
-            b"the input begins with `schedule `, a sign for each pick, 0 to 9 and a to v, and the line `program`\n",
-        Status::Tall(_) => b"the fragment came to a value that would be more than 1000 high\n",
-        Status::LongJournal(_) =>
-            b"with this entry its steps, and one more for each entry, come to more than 100000000 in all\n",
+            b"malformed schedule: expected `schedule `, one character for each pick (0 to 9 and a to v), then the line `program`\n",
+        Status::Tall(_) => b"value nested too deeply: the limit is 1,000 levels\n",
+        Status::LongJournal(_) => b"journal too long: steps plus entries exceed 100,000,000 here\n",
         _ => b"",
     }
 }

@@ -1,4 +1,4 @@
-//! A source of which is kept what it gave.
+//! A source that records what was read from it.
 
 ghost use Rattle.std.specs.Prelude.{◌≡◌};
 
@@ -20,7 +20,7 @@ impl<S: Source> Kept<S> {
         }
     }
 
-    /// The bytes that were given.
+    /// Returns the bytes that were given.
     pub fn bytes(&self) -> &[u8] {
         &self.bytes
     }

@@ -5,7 +5,7 @@ ghost use Rattle.std.specs.Prelude.{◌≡◌, None};
 use ame_io::{Failed, Sink, WriteFault, write_all};
 use std::alloc::Global;
 
-/// Writes to another sink, but keeps back what begins with a letter, as a verdict line does, and what comes behind it, as far as there is
+/// Writes to another sink, but holds back everything from a verdict line on, which begins with a letter, as far as there is
 /// memory for it.
 #[derive(Drop)]
 pub struct Late<K> {

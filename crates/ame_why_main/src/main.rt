@@ -1,4 +1,4 @@
-//! What `ame` says of a program, and then what a person wants to know of it; or a view of its run.
+//! The verdict of `ame` on a program, and its reasons; or a view of its run.
 #![tactic(auto)]
 
 mod asked;
@@ -30,7 +30,7 @@ use std::rt::Files;
 use std::sync::Wait;
 use std::thread::Threads;
 
-/// Does what the words of one call ask for, and tells the status of the process.
+/// Does what the words of one call ask for, and returns the status of the process.
 fn call<R>(rt: &R, words: Vec<String>) -> u8
 where
     R: AllocGlobal + Threads + Wait + Sync + Files + Input + Print + Eprint,

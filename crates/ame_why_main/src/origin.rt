@@ -1,8 +1,8 @@
-//! Where a text comes from.
+//! The file of a text.
 
 use std::alloc::AllocError;
 
-/// What a text's file is called, and why it can't be read, if it can't.
+/// The name of a text's file, and why it can't be read, if it can't.
 #[derive(Clone, Copy)]
 pub struct Origin<'a> {
     pub name: &'a str,
@@ -10,7 +10,7 @@ pub struct Origin<'a> {
 }
 
 impl<'a> Origin<'a> {
-    /// The standard input.
+    /// Returns the standard input.
     pub fn standard() -> Origin<'static> {
         Origin {
             name: "-",
@@ -18,12 +18,12 @@ impl<'a> Origin<'a> {
         }
     }
 
-    /// A file that can be read.
+    /// Returns a file that can be read.
     pub fn file(name: &'a str) -> Origin<'a> {
         Origin { name, fault: None }
     }
 
-    /// A file that can't be read, for this reason, if there was memory to tell it.
+    /// Returns a file that can't be read, for this reason, if there was memory for the words.
     pub fn unreadable(name: &'a str, fault: &'a Result<String, AllocError>) -> Origin<'a> {
         match fault {
             Ok(fault) => Origin {

@@ -19,8 +19,8 @@ use std::rt::Files;
 use std::sync::Wait;
 use std::thread::Threads;
 
-/// Runs what the words ask for, and writes what is asked for of it. A view stands before the verdict line, which goes to the standard error
-/// where the view is an input of another call; where no run was begun, the verdict line stands first, and then why. The answer is the status of
+/// Runs what the words ask for, and writes the view that they ask for. A view comes before the verdict line, which goes to standard error
+/// if the view is an input of another call. If no run was begun, the verdict line comes first, and then why. The result is the status of
 /// the process.
 pub fn show<R, S, W>(
     rt: &R,
@@ -58,7 +58,7 @@ where
     number
 }
 
-/// Writes what `ame` writes, and then why. Of a text that is refused at a place the first line tells that too.
+/// Writes what `ame` writes, and then why. If a text is refused at a place, the first line has that place too.
 fn show_run<R, S, W>(
     rt: &R,
     words: Vec<String>,
@@ -102,7 +102,7 @@ fn end_run<K: Sink>(
     Ok(())
 }
 
-/// What is written of a run.
+/// Returns what is written of a run.
 fn told<K>(
     alloc: Global,
     view: View,
@@ -129,7 +129,7 @@ fn told<K>(
     Ok(page)
 }
 
-/// Writes whether a file has just these bytes, and tells 0 where it has.
+/// Writes whether a file has exactly these bytes, and returns 0 if it has.
 fn compare<R, W>(rt: &R, file: &str, page: &[u8], writer: W) -> u8
 where
     R: AllocGlobal + Files,
@@ -144,7 +144,7 @@ where
     }
 }
 
-/// Writes bytes, and tells the status: this number, unless the sink fails.
+/// Writes bytes, and returns the status: this number, unless the sink fails.
 pub fn write<W: io::Write + Drop>(writer: W, bytes: &[u8], number: u8) -> u8 {
     match write_all(&mut StdSink::new(writer), bytes) {
         Ok(()) => number,

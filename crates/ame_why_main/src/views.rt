@@ -22,7 +22,7 @@ use ame_views::{
 };
 use std::alloc::Global;
 
-/// What is said of a run that has no schedule.
+/// The answer for a run that has no schedule.
 const NO_SCHEDULE: &[u8] = b"this run has no schedule; those of `sim` and `replay` have one\n";
 
 /// Returns what is asked for of a run.
@@ -63,7 +63,7 @@ pub fn page_of<K>(
     }
 }
 
-/// The entries of a whole run: those from which it went on, and those that it added.
+/// Returns the entries of a whole run: those from which it went on, and those that it added.
 pub fn entries_of<K, D>(alloc: Global, report: &Report<K, D>) -> Result<Vec<Entry>, NoMemory> {
     let mut entries = Vec::new(alloc);
     for entry in report.base() {
@@ -128,7 +128,7 @@ pub fn program_of(alloc: Global, text: &[u8]) -> Result<Program, NoMemory>
     }
 }
 
-/// The schedule of a run, the line `program` and the text; where the run has none, why.
+/// Returns the schedule of a run, the line `program` and the text; if the run has no schedule, why.
 fn schedule_text(alloc: Global, left: &Left, text: &[u8]) -> Result<Vec<u8>, NoMemory> {
     match left {
         Left::Engine(_, Extra::Picked(mades)) => mades.schedule_text(alloc, text),
@@ -136,7 +136,7 @@ fn schedule_text(alloc: Global, left: &Left, text: &[u8]) -> Result<Vec<u8>, NoM
     }
 }
 
-/// Returns the table of a run's journal, and where the locations were made that are left, if there are any; of a weak run first the order in
+/// Returns the table of a run's journal, and the forms that created the locations that are left, if any; for a weak run first the order in
 /// which it was made.
 fn trace_text<K>(
     alloc: Global,
@@ -156,7 +156,7 @@ fn trace_text<K>(
     Ok(page)
 }
 
-/// The text of these entries, the line `program` and the text.
+/// Returns the text of these entries, the line `program` and the text.
 pub fn journal_text(alloc: Global, entries: &[Entry], text: &[u8]) -> Result<Vec<u8>, NoMemory> {
     match journal_of(alloc, entries)? {
         Some(journal) => input_of(alloc, &journal, text),

@@ -12,10 +12,10 @@ use std::alloc::Global;
 /// The most labels that are shown.
 const MOST_LABELS: usize = 10_000;
 
-/// What is said of a run with more.
+/// The last line of a run with more labels.
 const TOO_MANY: &[u8] = b"further labels aren't shown: there are more than 10,000\n";
 
-/// The labels of a weak run, and then a line before the table of its journal.
+/// Returns the labels of a weak run, and then a line before the table of its journal.
 pub fn order_text(alloc: Global, text: &[u8], weak: &WeakEnd) -> Result<Vec<u8>, NoMemory>
     requires small { length text.now ≤ max_text }
 {

@@ -1,7 +1,8 @@
-use Rattle.std.proofs.Common.{ℤ, ◌+◌, List, [], ◌∷◌, ◌++◌, map, arith, take, drop, length, Vec, Global, refl, ap, ◌∙◌, subst}
-use Rattle.ame_check.proofs.JudgeLemmas.{low-so, made-so, undefined-so, too_high-so}
-use Rattle.ame_check.specs.Entries.{CameOf}
+use Rattle.std.proofs.Common.{ℤ, ◌+◌, List, [], ◌∷◌, ◌++◌, map, arith, take, drop, length, Vec, Global, refl, sym, ap, ◌∙◌, subst}
+use Rattle.ame_check.proofs.JudgeLemmas.{low-so, made-so, halted-so}
+use Rattle.ame_check.specs.Judge.{IsHalted}
 use Rattle.ame_check.specs.Shows.{ReplayView}
+use Rattle.ame_code.specs.Code.{program_of}
 use Rattle.ame_value.specs.declared.val.Val.{Val}
 use Rattle.ame_eval.specs.declared.fragment.Fragment.{Fragment}
 use Rattle.ame_views.specs.FragmentMeaning.{fragment_meaning}
@@ -40,25 +41,25 @@ loop-index-preserved c =
       output = c.make.new.self.output.items;
       next = c.make.new.self.next;
     } in
-    let came = subst (CameOf fragment_meaning code (take i entries) entry later) c.in-Made.is (c.in_ok-make.ensures (take i entries) c.loop-index.invariant.begins.stands) in
+    let came = c.in_default.ensures.made (take i entries) c.loop-index.invariant.begins.stands in
     let stands = came.1 in
     record {
       begins =
           beginning-goes-on code entries i c.loop-index-test.true entry c.index-entries-index.is before later c.loop-index.begun.entries c.note_begun.new.begun.entries
-          c.loop-index.invariant.begins stands c.in_ok-note_begun-in-Made.ensures.begun;
+          c.loop-index.invariant.begins stands c.in_ok-note_begun.ensures.begun;
       seen =
           all-goes-on code entries i (length c.loop-index.starters.items) (length c.note_started.new.starters.items) before later c.loop-index.begun.entries
           c.note_begun.new.begun.entries c.loop-index.invariant.begins.stands
           (made-so fragment_meaning code entries i i refl before c.loop-index.invariant.begins.stands c.loop-index-test.true entry c.index-entries-index.is later stands)
-          c.loop-index.invariant.seen c.in_ok-note_begun-in-Made.ensures.keeps c.in_ok-note_begun-in-Made.ensures.all
-          (ap length c.in_ok-note_started-in-Made.ensures ∙ length-with (i + 1) later.next c.loop-index.starters.items);
+          c.loop-index.invariant.seen c.in_ok-note_begun.ensures.keeps c.in_ok-note_begun.ensures.all
+          (ap length c.in_ok-note_started.ensures ∙ length-with (i + 1) later.next c.loop-index.starters.items);
       starts =
           starting-goes-on fragment_meaning code entries i c.loop-index-test.true entry c.index-entries-index.is c.loop-index.starters.items before later
-          c.loop-index.invariant.starts stands c.note_started.new.starters.items c.in_ok-note_started-in-Made.ensures;
+          c.loop-index.invariant.starts stands c.note_started.new.starters.items c.in_ok-note_started.ensures;
       prints =
           printing-goes-on fragment_meaning code entries i c.loop-index-test.true entry c.index-entries-index.is (map line_of c.loop-index.lines.items)
           (drop (length before.output) later.output) before later c.loop-index.invariant.prints stands refl (map line_of c.note_lines.new.lines.items)
-          (c.in_ok-note_lines-in-Made.ensures
+          (c.in_ok-note_lines.ensures
           ∙ ap (λ (line : List ℤ). map line_of c.loop-index.lines.items ++ line ∷ [])
           (ap (λ (zs : List ℤ). drop (length zs) c.as_slice.result.now) c.as_slice-printed.ensures.value
           ∙ ap (λ (zs : List ℤ). drop (length before.output) zs) c.as_slice.ensures.value));
@@ -85,18 +86,9 @@ returns-clause-lines c =
     printing-ends fragment_meaning c.args.code.now c.args.entries.now c.loop-index.index (map line_of c.loop-index.lines.items) _ c.loop-index-test.false
     c.loop-index.invariant.prints
 
-pub returns-in-Undefined-clause-halted : goal.returns-in-Undefined-clause-halted
-returns-in-Undefined-clause-halted c =
-    undefined-so fragment_meaning c.args.code.now c.args.entries.now c.loop-index.index c.loop-index.index refl _ c.loop-index.invariant.begins.stands c.loop-index-test.true
-    c.index-entries-index.result c.index-entries-index.is c.loop-index.invariant.low c.in-Undefined.why
-    (subst (CameOf fragment_meaning c.args.code.now (take c.loop-index.index c.args.entries.now) c.index-entries-index.result
-    (record { cells = c.make.new.self.cells.entries; members = c.make.new.self.members.entries; output = c.make.new.self.output.items; next = c.make.new.self.next })) c.in-Undefined.is
-    (c.in_ok-make.ensures (take c.loop-index.index c.args.entries.now) c.loop-index.invariant.begins.stands))
-
-pub returns-in-Tall-clause-halted : goal.returns-in-Tall-clause-halted
-returns-in-Tall-clause-halted c =
-    too_high-so fragment_meaning c.args.code.now c.args.entries.now c.loop-index.index c.loop-index.index refl _ c.loop-index.invariant.begins.stands c.loop-index-test.true
-    c.index-entries-index.result c.index-entries-index.is c.loop-index.invariant.low
-    (subst (CameOf fragment_meaning c.args.code.now (take c.loop-index.index c.args.entries.now) c.index-entries-index.result
-    (record { cells = c.make.new.self.cells.entries; members = c.make.new.self.members.entries; output = c.make.new.self.output.items; next = c.make.new.self.next })) c.in-Tall.is
-    (c.in_ok-make.ensures (take c.loop-index.index c.args.entries.now) c.loop-index.invariant.begins.stands))
+pub returns-in-Err-clause-halted : goal.returns-in-Err-clause-halted
+returns-in-Err-clause-halted c =
+    subst (IsHalted (program_of c.args.code.now) c.args.entries.now) (sym c.at.ensures)
+    (halted-so fragment_meaning c.args.code.now c.args.entries.now c.loop-index.index c.loop-index.index refl _ c.loop-index.invariant.begins.stands c.loop-index-test.true
+    c.index-entries-index.result c.index-entries-index.is c.loop-index.invariant.low c.in-Err.error
+    (c.in-Err.ensures.halted (take c.loop-index.index c.args.entries.now) c.loop-index.invariant.begins.stands))

@@ -1,4 +1,4 @@
--- The entries so far were made: where the fragments began, by which entries they were started, and which lines were printed.
+-- The entries so far were made: the beginnings of tasks, the entries that started them, and the lines that were printed.
 use Rattle.std.proofs.Common.{length, map}
 use Rattle.ame_code.specs.Code.{program_of}
 use Rattle.ame_check.proofs.JudgeLemmas.{NoneIsTall}

@@ -1,4 +1,4 @@
--- What is noted so far.
+-- The notes so far.
 use Rattle.ame_views.specs.Begun.{NotesBegun, KeepsNotes, NotesAll}
 use Rattle.ame_views.proofs.begun.note_begun.Given as goal
 

@@ -9,8 +9,8 @@ use Rattle.ame_views.proofs.standing_lines.append_holds.Goals as goal
 pub returns : goal.returns
 unfolding holds_words
 returns c =
-    added-three c.args.page.now.items c.append.new.page.items c.append-2.new.page.items c.append-3.new.page.items
-    (codes ", which holds ") (held_words (flat_value c.args.value.now)) (codes "\n")
-    c.in_ok-append.ensures
-    (c.in_ok-append-2.ensures ∙ ap (λ (xs : List ℕ). c.append.new.page.items ++ xs) (c.deref.ensures.value ∙ c.in_ok-held.ensures))
-    c.in_ok-append-3.ensures
+    added-three c.args.page.now c.add.new.self c.add-2.new.self c.add-3.new.self
+    (codes "), which now holds ") (held_words (flat_value c.args.value.now)) (codes "\n")
+    c.in_ok-add.ensures
+    (c.in_ok-add-2.ensures ∙ ap (λ (xs : List ℕ). c.add.new.self ++ xs) (c.deref.ensures.value ∙ c.in_ok-held.ensures))
+    c.in_ok-add-3.ensures

@@ -10,9 +10,9 @@ pub returns : goal.returns
 unfolding made_words
 returns c =
     let same : c.from.result ≡ c.args.l = search rules in
-    added-four c.args.page.now.items c.append.new.page.items c.append_decimal.new.page.items c.append-2.new.page.items c.append_position.new.page.items
-    (codes "  it read location ") (decimal c.args.l) (codes ", made at ") (position_words (slice_get c.args.forms.now c.args.form.0))
-    c.in_ok-append.ensures
-    (c.in_ok-append_decimal.ensures ∙ ap (λ (n : ℕ). c.append.new.page.items ++ decimal n) same)
-    c.in_ok-append-2.ensures
-    (c.in_ok-append_position.ensures ∙ ap (λ (o : Option Position). c.append-2.new.page.items ++ position_words o) c.position_at.ensures)
+    added-four c.args.page.now c.add.new.self c.add_number.new.self c.add-2.new.self c.append_position.new.page
+    (codes "  it read location ") (decimal c.args.l) (codes " (created at ") (position_words (slice_get c.args.forms.now c.args.form.0))
+    c.in_ok-add.ensures
+    (c.in_ok-add_number.ensures ∙ ap (λ (n : ℕ). c.add.new.self ++ decimal n) same)
+    c.in_ok-add-2.ensures
+    (c.in_ok-append_position.ensures ∙ ap (λ (o : Option Position). c.add-2.new.self ++ position_words o) c.position_at.ensures)

@@ -10,7 +10,7 @@ use Rattle.ame_views.proofs.standings.standings_of.Goals as goal
 
 pub loop-certificate-init : goal.loop-certificate-init
 loop-certificate-init c =
-    tell-begins c.in_ok-lines.lines.text.now c.args.code.now c.args.entries.now c.in-Some.led.replay.cells.entries c.args.certificates.now _ c.new-page.ensures.items
+    tell-begins c.in_ok-lines.lines.text.now c.args.code.now c.args.entries.now c.in-Some.led.replay.cells.entries c.args.certificates.now _ c.new-page.ensures
 
 pub loop-certificate-preserved : goal.loop-certificate-preserved
 loop-certificate-preserved c =
@@ -38,6 +38,6 @@ loop-certificate-preserved c =
     → TellsStanding c.in_ok-lines.lines.text.now c.args.code.now es c.in-Some.led.replay.cells.entries c.certificate-item.result v.items)
     c.in_ok-part.field-0 c.in-Some-2.part c.in-Some-2.is c.in_ok-part.ensures c.args.entries.now stands started in
     tell-goes-on c.in_ok-lines.lines.text.now c.args.code.now c.args.entries.now c.in-Some.led.replay.cells.entries c.args.certificates.now c.loop-certificate.certificate-index
-    c.loop-certificate-test.true c.certificate-item.result c.certificate-item.is c.loop-certificate.page.items c.in-Some-2.part.items c.append.new.page.items
+    c.loop-certificate-test.true c.certificate-item.result c.certificate-item.is c.loop-certificate.page c.in-Some-2.part.items c.add.new.self
     c.loop-certificate.invariant told
-    (c.in_ok-append.ensures ∙ ap (λ (xs : List ℕ). c.loop-certificate.page.items ++ xs) c.deref-in-loop-certificate-3.ensures.value)
+    (c.in_ok-add.ensures ∙ ap (λ (xs : List ℕ). c.loop-certificate.page ++ xs) c.deref-in-loop-certificate-3.ensures.value)

@@ -1,4 +1,4 @@
--- What started the fragments so far.
+-- The starters of the tasks so far.
 use Rattle.std.proofs.Common.{◌≡◌, List, length, map, take}
 use Rattle.ame_journal.specs.declared.entry.Entry.{Entry}
 use Rattle.ame_views.specs.Begun.{TellsBegun, TellsAllBegun, TellsForm}

@@ -5,5 +5,5 @@ use Rattle.ame_views.proofs.table.append_rows.Given as goal
 
 abbrev pub invariant-loop-index : goal.invariant-loop-index
 invariant-loop-index l =
-    l.page.items ++ rows (l.index + 1) (drop l.index l.entries) l.rest (starter_in l.starters) (lines_at (map (λ v. v.items) l.lines))
-    ≡ l.initial.page.items ++ rows 1 l.entries l.tries (starter_in l.starters) (lines_at (map (λ v. v.items) l.lines))
+    l.page ++ rows (l.index + 1) (drop l.index l.entries) l.rest (starter_in l.starters) (lines_at (map (λ v. v.items) l.lines))
+    ≡ l.initial.page ++ rows 1 l.entries l.tries (starter_in l.starters) (lines_at (map (λ v. v.items) l.lines))

@@ -4,7 +4,7 @@ use Rattle.ame_views.proofs.RowLemmas.{AreTriesSoFar}
 use Rattle.ame_views.proofs.table.append_tries.Given as goal
 
 abbrev pub invariant-loop-t : goal.invariant-loop-t
-invariant-loop-t l = AreTriesSoFar l.number (starter_in l.starters) l.tries l.rest l.fn.page.items l.page.items
+invariant-loop-t l = AreTriesSoFar l.number (starter_in l.starters) l.tries l.rest l.fn.page l.page
 
 abbrev pub decreases-loop-t : goal.decreases-loop-t
 decreases-loop-t l = length l.rest

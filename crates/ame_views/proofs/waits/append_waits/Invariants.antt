@@ -4,4 +4,4 @@ use Rattle.ame_views.specs.Waits.{wait_line}
 use Rattle.ame_views.proofs.waits.append_waits.Given as goal
 
 abbrev pub invariant-loop-certificate : goal.invariant-loop-certificate
-invariant-loop-certificate l = l.page.items ≡ l.initial.page.items ++ flat_map wait_line (take l.certificate-index l.certificates)
+invariant-loop-certificate l = l.page ≡ l.initial.page ++ flat_map wait_line (take l.certificate-index l.certificates)

@@ -1,10 +1,10 @@
--- A word begins here.
-use Rattle.std.proofs.Common.{◌≡◌, ◌-◌, ◌≤◌, true, length}
-use Rattle.ame_why.specs.Words.{begins_word}
+-- Each word so far may stand where it stands.
+use Rattle.std.proofs.Common.{◌-◌, ◌≤◌, length}
+use Rattle.ame_why.specs.BadLines.{ReadsTo}
 use Rattle.ame_why.proofs.journal_line.fault_of.Given as goal
 
-abbrev pub invariant-loop-next : goal.invariant-loop-next
-invariant-loop-next l = (l.start ≤ length l.line) × (begins_word l.line l.start ≡ true)
+abbrev pub invariant-loop-word : goal.invariant-loop-word
+invariant-loop-word l = (l.start ≤ length l.line) × ReadsTo l.line l.start l.part l.is_free
 
-abbrev pub decreases-loop-next : goal.decreases-loop-next
-decreases-loop-next l = length l.line - l.start
+abbrev pub decreases-loop-word : goal.decreases-loop-word
+decreases-loop-word l = length l.line - l.start

@@ -11,7 +11,7 @@ use Rattle.ame_term.specs.Maps.{at}
 use Rattle.ame_term.specs.State.{State}
 use Rattle.ame_laws.specs.Orderly.{IsOrderly}
 use Rattle.ame_laws.proofs.MapLemmas.{is_at-same, is_at-here, lt-from_less}
-use Rattle.ame_protocol.specs.declared.certificate.Certificate.{Certificate}
+use Rattle.ame_journal.specs.declared.certificate.Certificate.{Certificate}
 use Rattle.ame_engine.specs.Ending.{Rise, CertifyAll}
 
 -- Elements of a list

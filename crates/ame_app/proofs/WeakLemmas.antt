@@ -34,10 +34,10 @@ use Rattle.ame_journal.specs.Totals.{total_steps}
 use Rattle.ame_journal.proofs.LabelLemmas.{fragment_run}
 use Rattle.ame_journal.proofs.StepLemmas.{step-keeps}
 use Rattle.ame_protocol.specs.Waits.Certificates.{IsCertificate}
-use Rattle.ame_protocol.specs.declared.certificate.Certificate.{Certificate}
+use Rattle.ame_journal.specs.declared.certificate.Certificate.{Certificate}
 use Rattle.ame_protocol.specs.declared.stop.Stop.{Stop}
 use Rattle.ame_protocol.specs.Event.Causes.{is_ordinary, AreOrdinary, EndsWith, IsTall, NotesStop}
-use Rattle.ame_engine.specs.Ending.{Rise, CertifyAll}
+use Rattle.ame_engine.specs.Ending.{CertifyAll}
 use Rattle.ame_shell.specs.Ends.{told_at}
 use Rattle.ame_shell.specs.Heard.{answered_all, and_more, HaveHeard, HaveFailed}
 use Rattle.ame_shell.specs.Over.{AreOfSeats}
@@ -51,7 +51,6 @@ use Rattle.ame_strong.specs.declared.next_label.Next.TheVariants as next
 use Rattle.ame_weak.specs.Weak.{Weak, holding_none, weak_start, IsWeakRun, weak_calls}
 use Rattle.ame_weak.specs.Straight.{Place, outset, arrival_where, freed, entries_of_label, past, straight}
 use Rattle.ame_weak.specs.Tries.{AreTried, AreTriesInOrder, note_for, noted_tries, tries_behind, straight_with}
-use Rattle.ame_weak.specs.declared.tries.Certificate.{Certificate as Failing}
 use Rattle.ame_weak.specs.declared.tries.Try.{Try}
 use Rattle.ame_weak.proofs.WayLemmas.{activate-found}
 use Rattle.ame_runner.specs.Run.{AreFailedTries, CutAt}
@@ -62,7 +61,7 @@ use Rattle.ame_runner.specs.declared.stop.WeakStop.{WeakStop}
 use Rattle.ame_runner.specs.Apart.{AreNotedApart}
 use Rattle.ame_runner.proofs.ApartLemmas.{order-behind, notes-apart}
 use Rattle.ame_app.specs.declared.left.WeakEnd.{WeakEnd}
-use Rattle.ame_app.specs.Jobs.{stop_told, LeavesFit, certificate_told, certificates_told, HasWeakStop, TellsWeakly}
+use Rattle.ame_app.specs.Jobs.{stop_told, LeavesFit, certificates_told, HasWeakStop, TellsWeakly}
 use Rattle.ame_app.specs.Verbs.Weak.{IsNoteAtEnd, IsWeakJournal, StandsAtCallOf}
 use Rattle.ame_app.proofs.CountLemmas.{here, more, empty, first-or-later}
 
@@ -269,33 +268,29 @@ found-failing s i n fresh fails =
     })
 
 module _ (s : State) where
-  abbrev Fails : Failing → Type 0
+  abbrev Fails : Certificate → Type 0
   Fails c = fails_after s c.number c.steps c.fresh ≡ true
 
-  hold-all : (cs : List Failing) → AllByRecursion Fails cs → All (λ (c : Certificate). IsCertificate s c.number c.steps c.fresh) (map certificate_told cs)
+  hold-all : (cs : List Certificate) → AllByRecursion Fails cs → All (λ (c : Certificate). IsCertificate s c.number c.steps c.fresh) cs
   hold-all [] all = All-nil (λ (c : Certificate). IsCertificate s c.number c.steps c.fresh)
   hold-all (c ∷ cs) all =
-      All-cons (λ (d : Certificate). IsCertificate s d.number d.steps d.fresh) (certificate_told c) (map certificate_told cs)
+      All-cons (λ (d : Certificate). IsCertificate s d.number d.steps d.fresh) c cs
       (found-failing s c.number c.steps c.fresh all.0).certificate (hold-all cs all.1)
 
-  numbers-told : (cs : List Failing) → map (λ (c : Certificate). c.number) (map certificate_told cs) ≡ map (λ (c : Failing). c.number) cs
-  numbers-told [] = refl
-  numbers-told (c ∷ cs) = ap (λ (ns : List ℕ). c.number ∷ ns) (numbers-told cs)
-
-  among : (cs : List Failing) (i : ℕ) → list_any (λ (c : Failing). c.number == i) cs ≡ true → Contains (map (λ (c : Failing). c.number) cs) i
+  among : (cs : List Certificate) (i : ℕ) → list_any (λ (c : Certificate). c.number == i) cs ≡ true → Contains (map (λ (c : Certificate). c.number) cs) i
   among [] i e = absurd (cc)
   among (c ∷ cs) i e = by (c.number == i) refl e (λ found. among cs i found)
     where
-      by : (b : Bool) → (c.number == i) ≡ b → (b || list_any (λ (d : Failing). d.number == i) cs) ≡ true
-          → (list_any (λ (d : Failing). d.number == i) cs ≡ true → Contains (map (λ (d : Failing). d.number) cs) i) → Contains (map (λ (d : Failing). d.number) (c ∷ cs)) i
-      by true is found go = here c.number i (map (λ (d : Failing). d.number) cs) (eqb-true c.number i is)
-      by false is found go = more c.number i (map (λ (d : Failing). d.number) cs) (go found)
+      by : (b : Bool) → (c.number == i) ≡ b → (b || list_any (λ (d : Certificate). d.number == i) cs) ≡ true
+          → (list_any (λ (d : Certificate). d.number == i) cs ≡ true → Contains (map (λ (d : Certificate). d.number) cs) i) → Contains (map (λ (d : Certificate). d.number) (c ∷ cs)) i
+      by true is found go = here c.number i (map (λ (d : Certificate). d.number) cs) (eqb-true c.number i is)
+      by false is found go = more c.number i (map (λ (d : Certificate). d.number) cs) (go found)
 
-  member-of : (cs : List Failing) → AllByRecursion Fails cs → (i : ℕ) → Contains (map (λ (c : Failing). c.number) cs) i → IsSome (at s.members i)
+  member-of : (cs : List Certificate) → AllByRecursion Fails cs → (i : ℕ) → Contains (map (λ (c : Certificate). c.number) cs) i → IsSome (at s.members i)
   member-of [] all i there = absurd (empty i there)
-  member-of (c ∷ cs) all i there = by (first-or-later c.number i (map (λ (d : Failing). d.number) cs) there) (λ later. member-of cs all.1 i later)
+  member-of (c ∷ cs) all i there = by (first-or-later c.number i (map (λ (d : Certificate). d.number) cs) there) (λ later. member-of cs all.1 i later)
     where
-      by : (c.number ≡ i) ⊎ Contains (map (λ (d : Failing). d.number) cs) i → (Contains (map (λ (d : Failing). d.number) cs) i → IsSome (at s.members i))
+      by : (c.number ≡ i) ⊎ Contains (map (λ (d : Certificate). d.number) cs) i → (Contains (map (λ (d : Certificate). d.number) cs) i → IsSome (at s.members i))
           → IsSome (at s.members i)
       by (inl same) go = subst (λ (k : ℕ). IsSome (at s.members k)) same (found-failing s c.number c.steps c.fresh all.0).member
       by (inr later) go = go later
@@ -304,24 +299,24 @@ module _ (s : State) where
   first-there [] some = absurd (some refl)
   first-there (m ∷ ms) some = (m.0, ap (λ (b : Bool). is_some (cond b (Some m.1) (at ms m.0))) (is_at-here m.0))
 
-  module _ (idle : s.active ≡ None) (cs : List Failing) (b : IsBlockedBy (holding_none s) cs) where
+  module _ (idle : s.active ≡ None) (cs : List Certificate) (b : IsBlockedBy (holding_none s) cs) where
     all-members : pool s ≡ s.members
     all-members = ap (λ (o : Option ℕ). but o s.members) idle
 
-    there : (i : ℕ) → is_some (at s.members i) ≡ true → list_any (λ (c : Failing). c.number == i) cs ≡ true
+    there : (i : ℕ) → is_some (at s.members i) ≡ true → list_any (λ (c : Certificate). c.number == i) cs ≡ true
     there i some = b.all i (ap (λ (ms : List (ℕ × Tree)). is_some (at ms i)) all-members ∙ some)
 
-    none-not : (ds : List Failing) → map certificate_told ds ≡ [] → (i : ℕ) → list_any (λ (c : Failing). c.number == i) ds ≡ true → ⊥
+    none-not : (ds : List Certificate) → ds ≡ [] → (i : ℕ) → list_any (λ (c : Certificate). c.number == i) ds ≡ true → ⊥
     none-not [] none i e = let clash : false ≡ true = e in cc
     none-not (d ∷ ds) none i e = cc
 
-    certify-all : CertifyAll s (map certificate_told cs)
+    certify-all : CertifyAll s cs
     certify-all = record {
       hold = hold-all cs b.fail;
-      rise = subst Rise (sym (numbers-told cs)) b.rise;
+      rise = b.rise;
       members = λ i. (
-        (λ some. subst (λ (ns : List ℕ). Contains ns i) (sym (numbers-told cs)) (among cs i (there i some))),
-        λ named. member-of cs b.fail i (subst (λ (ns : List ℕ). Contains ns i) (numbers-told cs) named),
+        (λ some. among cs i (there i some)),
+        λ named. member-of cs b.fail i named,
       );
       some = λ none.
           let first = first-there s.members (λ e. b.some (all-members ∙ e)) in

@@ -10,7 +10,7 @@ use Rattle.ame_cli.specs.declared.command.Command.{Command}
 use Rattle.ame_cli.specs.Grammar.{SpellsCommand, SpellsNothing}
 use Rattle.ame_types.specs.declared.fault.TypeFault.{TypeFault}
 use Rattle.ame_protocol.specs.declared.stop.Stop.{Stop}
-use Rattle.ame_protocol.specs.declared.certificate.Certificate.{Certificate}
+use Rattle.ame_journal.specs.declared.certificate.Certificate.{Certificate}
 use Rattle.ame_journal.specs.Replayed.{Replayed}
 use Rattle.ame_protocol.specs.Event.Causes.{IsTall}
 use Rattle.ame_protocol.specs.Event.Faults.{ComesToCall}

@@ -1,5 +1,5 @@
 -- What comes before a run, the run, and what is written after it, for the private functions.
-use Rattle.std.specs.Prelude.{◌≡◌, ◌≢◌, ℕ, ℤ, ◌*◌, ◌≤◌, ◌++◌, ◌⊎◌, List, [], map, length, Option, Some, ⊤}
+use Rattle.std.specs.Prelude.{◌≡◌, ◌≢◌, ℕ, ℤ, ◌*◌, ◌≤◌, ◌++◌, ◌⊎◌, List, [], length, Option, Some, ⊤}
 use Rattle.std.specs.Io.KnownBytes.{Appends}
 use Rattle.ame_io.specs.Counts.{HasRisen}
 use Rattle.ame_io.specs.Writes.{AppendsFront}
@@ -32,7 +32,7 @@ use Rattle.ame_machine.specs.Meaning.{Meaning}
 use Rattle.ame_engine.specs.Core.{Core}
 use Rattle.ame_device.specs.declared.told.Told.{Told}
 use Rattle.ame_protocol.specs.declared.types.Limits.{Limits}
-use Rattle.ame_protocol.specs.declared.certificate.Certificate.{Certificate}
+use Rattle.ame_journal.specs.declared.certificate.Certificate.{Certificate}
 use Rattle.ame_protocol.specs.declared.stop.Stop.{Stop}
 use Rattle.ame_protocol.specs.Event.Causes.{IsTall, NotesStop}
 use Rattle.ame_engine.specs.Ending.{End, CertifyAll}
@@ -40,7 +40,6 @@ use Rattle.ame_engine.specs.Resuming.{HasResumed}
 use Rattle.ame_shell.specs.Ends.{Ends}
 use Rattle.ame_shell.specs.Heard.{HaveHeard, HaveFailed}
 use Rattle.ame_shell.specs.Over.{AreOfSeats, IsOver, IsOverSince}
-use Rattle.ame_weak.specs.declared.tries.Certificate.{Certificate as Failing}
 use Rattle.ame_runner.specs.Apart.{AreNotedApart}
 use Rattle.ame_runner.specs.declared.stop.WeakStop.{WeakStop}
 use Rattle.ame_app.specs.declared.fault.TextFault.{TextFault}
@@ -79,6 +78,7 @@ tokens_told fault = Status.Text (TextFault.Syntactic fault)
 
 abbrev pub types_told : TypesFail → Status
 types_told (TypesFail.Fault fault) = Status.Types fault
+types_told TypesFail.TooLarge = Status.NoMemory
 types_told TypesFail.NoMemory = Status.NoMemory
 
 -- What is to be run
@@ -243,11 +243,9 @@ abbrev pub LeavesFit : WeakStop → Type 0
 LeavesFit (WeakStop.Tall entry) = IsFit entry
 LeavesFit stop = ⊤
 
-abbrev pub certificate_told : Failing → Certificate
-certificate_told c = record { number = c.number; steps = c.steps; fresh = c.fresh }
-
+-- the witnesses of the members that are blocked then
 abbrev pub certificates_told : WeakStop → List Certificate
-certificates_told (WeakStop.Blocked certificates) = map certificate_told certificates.items
+certificates_told (WeakStop.Blocked certificates) = certificates.items
 certificates_told stop = []
 
 -- What is written

@@ -4,8 +4,7 @@ use crate::left::Ran;
 use crate::parts::Own;
 use crate::status::Status;
 use ame_cli::Command;
-use ame_engine::Certificate;
-use ame_journal::Entry;
+use ame_journal::{Certificate, Entry};
 
 /// How a call ended, the text that was read or generated, the command, the run, and the sink and the devices that were handed in.
 #[derive(Drop)]

@@ -8,8 +8,9 @@ ghost use Rattle.ame_app.specs.Left.{end_in};
 use crate::fault::TextFault;
 use crate::left::Left;
 use crate::verdict::{device_failed, ill_typed, numbered, plain, refused};
-use ame_engine::{Certificate, Stop};
+use ame_engine::Stop;
 use ame_io::Line;
+use ame_journal::Certificate;
 use ame_types::TypeFault;
 
 /// How a call ends.

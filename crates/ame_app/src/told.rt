@@ -70,7 +70,7 @@ impl From<TypesFail> for Status {
     fn from(fail: TypesFail) -> Status {
         match fail {
             TypesFail::Fault(fault) => Status::Types(fault),
-            TypesFail::NoMemory => Status::NoMemory,
+            TypesFail::TooLarge | TypesFail::NoMemory => Status::NoMemory,
         }
     }
 }

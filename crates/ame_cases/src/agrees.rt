@@ -1,4 +1,4 @@
-//! Whether a run left what its journal comes to on the strong semantics as a program.
+//! The comparison of a run with the state to which its journal leads in the strong semantics as a program.
 
 use crate::device::Boxed;
 use crate::fault::Fault;
@@ -13,8 +13,8 @@ use ame_term::{Loc, Value, copy_term};
 use ame_value::Val;
 use std::alloc::Global;
 
-/// Whether a run's journal can be made, and the run left the output, the integers in the cells and the members to which it leads. The devices
-/// heard as many calls as it tells. A note of a value that is too high isn't replayed.
+/// Returns whether a run's journal can be replayed, and the run left the output, the integers in the cells and the members to which it
+/// leads. The devices heard as many calls as the journal has. A note of a value that is too high isn't replayed.
 pub fn agrees(alloc: Global, report: &CaseReport, run: &Ran) -> Result<bool, Fault> {
     let program = copy_term(alloc, &run.code.accepted().program.term)?;
     let entries = without_tall(report.journal());
@@ -29,7 +29,7 @@ pub fn agrees(alloc: Global, report: &CaseReport, run: &Ran) -> Result<bool, Fau
     }
 }
 
-/// The entries before a last note of a value that is too high.
+/// Returns the entries before a last note of a value that is too high.
 fn without_tall(entries: &[Entry]) -> &[Entry] {
     match entries.split_last() {
         Some((last, before)) if last.kind == EntryKind::Tall => before,
@@ -37,7 +37,7 @@ fn without_tall(entries: &[Entry]) -> &[Entry] {
     }
 }
 
-/// Whether each live cell with an integer has it in the state as well, and no other cell is live.
+/// Returns whether each live cell with an integer has it in the state as well, and no other cell is live.
 fn are_same_cells(store: &Store<Val>, state: &StrongState) -> bool {
     for location in 0..store.len() {
         let cell = store.cell(Loc(location));
@@ -54,7 +54,7 @@ fn are_same_cells(store: &Store<Val>, state: &StrongState) -> bool {
     true
 }
 
-/// Whether so many members may be left where a call ended so.
+/// Returns whether this number of members may be left if a call ended with this status.
 fn are_left(status: &Status, members: u64) -> bool {
     match status {
         Status::Finished => members == 0,
@@ -64,7 +64,7 @@ fn are_left(status: &Status, members: u64) -> bool {
     }
 }
 
-/// How many answers of devices entries tell.
+/// Returns the number of answers of devices in entries.
 fn answers_told(entries: &[Entry]) -> usize {
     entries
         .iter()
@@ -72,7 +72,7 @@ fn answers_told(entries: &[Entry]) -> usize {
         .count()
 }
 
-/// How many calls devices answered.
+/// Returns the number of calls that devices answered.
 fn calls_heard(devices: &[Boxed]) -> usize {
     let mut calls = 0usize;
     for device in devices {

@@ -11,7 +11,7 @@ use std::alloc::{AllocError, Global};
 use std::sync::Wait;
 use std::thread::Threads;
 
-/// The words of a case, with so many workers where that is told.
+/// Returns the words of a case, with a number of workers if one is given.
 fn words_of(alloc: Global, case: &Case, workers: Option<&str>) -> Result<Vec<String>, AllocError> {
     let mut words = Vec::new(alloc);
     for word in &case.words {
@@ -24,7 +24,7 @@ fn words_of(alloc: Global, case: &Case, workers: Option<&str>) -> Result<Vec<Str
     Ok(words)
 }
 
-/// The source and the sink of a case.
+/// Returns the source and the sink of a case.
 fn ends_of(alloc: Global, case: &Case) -> Result<(MemSource, MemSink), Fault> {
     let ends = &case.ends;
     let text = Vec::from_slice(alloc, &case.text)?;
@@ -37,7 +37,7 @@ fn ends_of(alloc: Global, case: &Case) -> Result<(MemSource, MemSink), Fault> {
     }
 }
 
-/// What is reported of a case, with so many workers where that is told.
+/// Returns the report of a case, with a number of workers if one is given.
 pub fn report_of<R, G>(
     rt: &R,
     case: &Case,

@@ -8,7 +8,7 @@ use crate::item::{Item, items_of};
 use crate::text::{add_bytes, add_piece, split_words};
 use std::alloc::Global;
 
-/// What must come of a field, as it is told.
+/// Holds what must come of a field, as the case has it.
 #[derive(Drop)]
 pub struct Fact {
     pub field: Field,
@@ -22,7 +22,7 @@ pub struct Case {
     pub line: usize,
     pub name: String,
     pub words: Vec<String>,
-    /// Each of these numbers is told behind the words, one after another. With none, the words are all.
+    /// Each of these numbers is put after the words, one after another. With none, the words are all.
     pub workers: Vec<String>,
     pub text: Vec<u8>,
     pub ends: Ends,
@@ -33,7 +33,7 @@ pub struct Case {
 }
 
 impl Case {
-    /// A case of which only the name is told.
+    /// Returns a case that has only its name.
     fn new(alloc: Global, item: &Item) -> Result<Case, Fault> {
         Ok(Case {
             line: item.line,
@@ -48,7 +48,7 @@ impl Case {
         })
     }
 
-    /// Takes what an item tells.
+    /// Takes what an item says.
     fn take(&mut self, alloc: Global, item: Item) -> Result<(), Fault> {
         if let Some(field) = Field::of(item.key.as_str()) {
             let lines = item.into_lines();
@@ -72,7 +72,7 @@ impl Case {
 }
 
 impl Case {
-    /// Whether a journal of it is replayed.
+    /// Returns whether a journal of it is replayed.
     pub fn is_replayed(&self) -> bool {
         self.facts
             .iter()
@@ -80,7 +80,7 @@ impl Case {
     }
 }
 
-/// The cases of a file's text.
+/// Returns the cases of a file's text.
 pub fn cases_of(alloc: Global, text: &str) -> Result<Vec<Case>, Fault> {
     let mut cases = Vec::new(alloc);
     for item in items_of(alloc, text)? {
@@ -94,7 +94,7 @@ pub fn cases_of(alloc: Global, text: &str) -> Result<Vec<Case>, Fault> {
     Ok(cases)
 }
 
-/// What an item tells of the last case.
+/// Takes what an item says of the last case.
 fn take_item(alloc: Global, cases: &mut Vec<Case>, item: Item) -> Result<(), Fault> {
     match cases.last_mut() {
         Some(case) => case.take(alloc, item),
@@ -102,7 +102,7 @@ fn take_item(alloc: Global, cases: &mut Vec<Case>, item: Item) -> Result<(), Fau
     }
 }
 
-/// Each case asks for something.
+/// Checks that each case asks for something.
 fn each_asks(cases: &[Case]) -> Result<(), Fault> {
     for case in cases {
         if case.facts.is_empty() {

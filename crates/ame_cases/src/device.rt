@@ -23,7 +23,7 @@ pub enum Kind {
 }
 
 impl Kind {
-    /// The device that an item tells.
+    /// Returns the device that an item describes.
     pub fn of(alloc: Global, item: &Item) -> Result<Kind, Fault> {
         let value = item.value();
         let (word, rest) = value.split_once(' ').unwrap_or((value, ""));
@@ -40,7 +40,7 @@ impl Kind {
     }
 }
 
-/// So many devices that count.
+/// Adds a number of devices that count.
 pub fn add_counting(devices: &mut Vec<Kind>, item: &Item) -> Result<(), Fault> {
     for _ in 0..item.size()? {
         if devices.len() == MOST {

@@ -53,7 +53,7 @@ impl Device for CountsDrops {
     }
 }
 
-/// Whether a call drops its device once, with the report.
+/// Returns whether a call drops its device once, with the report.
 fn is_dropped_once<R>(rt: &R, case: &Case) -> Result<bool, Fault>
 where
     R: AllocGlobal + Threads + Wait + Sync,
@@ -68,7 +68,7 @@ where
     Ok(is_kept && drops.load(Ordering::SeqCst) == 1)
 }
 
-/// Whether each call drops its device once, with the report.
+/// Returns whether each call drops its device once, with the report.
 pub fn devices_are_dropped_once<R>(rt: &R) -> Result<bool, Fault>
 where
     R: AllocGlobal + Threads + Wait + Sync,

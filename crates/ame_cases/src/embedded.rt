@@ -9,7 +9,7 @@ use std::thread::Threads;
 
 const PROGRAM: &[u8] = b"(do (async (print 1)) (unprotected (print (call 0 21))))";
 
-/// Runs the text, prints the lines that came to its sink, each behind a bar, and the status.
+/// Runs the text, prints the lines that came to its sink, each after a bar, and the status.
 pub fn run_embedded<R>(rt: &R) -> io::Result<()>
 where
     R: AllocGlobal + Print + Threads + Wait + Sync,

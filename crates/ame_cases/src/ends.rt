@@ -1,11 +1,11 @@
-//! How source and sink behave.
+//! The behavior of source and sink.
 
 use crate::fault::Fault;
 use crate::item::Item;
 use crate::text::numbers;
 use std::alloc::Global;
 
-/// How source and sink behave.
+/// Describes the behavior of source and sink.
 #[derive(Drop)]
 pub struct Ends {
     /// The most bytes of a read, and of a write.
@@ -14,7 +14,7 @@ pub struct Ends {
     /// The reads, and the writes, that fail, by their numbers from 1.
     pub failing_reads: Vec<u64>,
     pub failing_writes: Vec<u64>,
-    /// How many bytes the sink takes in all.
+    /// Limits the bytes that the sink takes in all.
     pub room: usize,
 }
 
@@ -30,7 +30,7 @@ impl Ends {
         }
     }
 
-    /// Takes what an item tells of them.
+    /// Takes what an item says of them.
     pub fn take(&mut self, alloc: Global, item: &Item) -> Result<(), Fault> {
         match item.key.as_str() {
             "read-chunk" => self.read_chunk = item.size()?,

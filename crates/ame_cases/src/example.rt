@@ -8,7 +8,7 @@ use std::sync::Wait;
 use std::thread::Threads;
 use std::{fs, io};
 
-/// The words with which an example is run: few turns, so that a loop without an end stops soon.
+/// Returns the words with which an example is run. The turns are few, so that a loop without an end stops soon.
 fn words<R: AllocGlobal>(rt: &R, workers: u32) -> Result<Vec<String>, AllocError> {
     let mut words = Vec::new(rt.alloc());
     for word in ["run", "--turns", "10000", "--workers"] {

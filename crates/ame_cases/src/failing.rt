@@ -47,7 +47,7 @@ impl Device for Tape {
     }
 }
 
-/// Answers its argument, and fails at the call with one number. Calls are numbered from 1, those that fail or lack memory among them.
+/// Answers its argument, and fails at the call with one number. Calls are numbered from 1, with those that fail or run out of memory.
 #[derive(Drop)]
 pub struct FailsAt {
     log: Log,

@@ -1,4 +1,4 @@
-//! What keeps cases from being run.
+//! The faults for which cases aren't run.
 
 use ame_term::NoMemory;
 use std::alloc::{AllocError, AllocFailed};
@@ -9,7 +9,7 @@ use std::io;
 pub enum Fault {
     /// The line of this number isn't one of the form.
     Line(usize, &'static str),
-    /// A file can't be read, or what is told not be written.
+    /// A file can't be read, or the report not be written.
     Ends,
     NoMemory,
 }

@@ -1,26 +1,26 @@
-//! What a case may ask for.
+//! The fields for which a case may ask.
 
 /// A kind of fact about a call.
 #[derive(Clone, Copy, PartialEq, Eq, Debug)]
 pub enum Field {
     /// The status of the process.
     Status,
-    /// What was written.
+    /// Shows what was written.
     Lines,
-    /// The same and a line feed.
+    /// Shows what was written, and a line feed.
     Written,
-    /// Whether a run was begun.
+    /// Says whether a run was begun.
     Run,
     /// From how many entries it went on.
     Resumed,
     Journal,
-    /// What the strong semantics comes to by the journal.
+    /// Shows the result of the strong semantics by the journal.
     Replay,
-    /// Whether the run left what the strong semantics comes to by the journal.
+    /// Says whether the run left the result of the strong semantics by the journal.
     Agrees,
-    /// What was printed by what was committed.
+    /// Shows the committed output.
     Output,
-    /// The events that counted, where no seat was in another's way.
+    /// Counts the turns, if no seat was in another's way.
     Turns,
     /// The undos after the stop.
     Unwound,
@@ -28,13 +28,13 @@ pub enum Field {
     Certificates,
     /// The location and the value of each live cell.
     Cells,
-    /// What each device was asked, and answered.
+    /// Shows the calls of each device with its answers.
     Heard,
-    /// What each pick of a run on one thread did.
+    /// Shows the effect of each pick of a run on one thread.
     Picks,
-    /// How many names the program has.
+    /// Counts the names of the program.
     Names,
-    /// How many types of locations the program has.
+    /// Counts the types of locations of the program.
     Types,
 }
 
@@ -60,7 +60,7 @@ const KEYS: &[(&str, Field)] = &[
 ];
 
 impl Field {
-    /// The field with a key.
+    /// Returns the field with a key.
     pub fn of(key: &str) -> Option<Field> {
         for (name, field) in KEYS {
             if *name == key {
@@ -70,7 +70,7 @@ impl Field {
         None
     }
 
-    /// The key of a field.
+    /// Returns the key of a field.
     pub fn key(self) -> &'static str {
         for (name, field) in KEYS {
             if *field == self {
@@ -80,7 +80,7 @@ impl Field {
         ""
     }
 
-    /// Whether it is asked of one worker alone.
+    /// Returns whether a case asks it of one worker only.
     pub fn is_of_one_worker(self) -> bool {
         matches!(self, Field::Turns | Field::Unwound)
     }

@@ -5,7 +5,7 @@ use ame_io::{ReadAllFail, StdSource, read_all};
 use std::fs;
 use std::rt::Files;
 
-/// The file of this name, or those of a folder whose names end in `.case`, in order of their names.
+/// Returns the file of this name, or those of a folder whose names end in `.case`, in order of their names.
 pub fn files_of<R: Files + AllocGlobal + Clone + Drop>(
     rt: &R,
     name: &str,
@@ -26,7 +26,7 @@ pub fn files_of<R: Files + AllocGlobal + Clone + Drop>(
     Ok(files)
 }
 
-/// The text of a file.
+/// Returns the text of a file.
 pub fn text_of<R: Files + AllocGlobal>(rt: &R, file: &str) -> Result<String, Fault> {
     let bytes = match read_all(rt.alloc(), &mut StdSource::new(fs::open(rt, file)?)) {
         Ok(bytes) => bytes,

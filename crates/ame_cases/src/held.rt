@@ -21,7 +21,7 @@ lines
     finished
 ";
 
-/// The same, where the worker that leads has made many steps of the first fragment before the other one comes.
+/// A program in which the worker that leads has made many steps of the first fragment before the other worker comes.
 const LED: &str = "\
 case the second fragment commits while the one that was led is held
 words run --slice 200
@@ -36,7 +36,7 @@ lines
 /// For how many looks a worker is held at most.
 const LOOKS: u32 = 20_000_000;
 
-/// A point, and who passed it: nobody (0), or one more than the number of the seat.
+/// Records who passed a point: 0 for no seat, or one more than the number of the seat.
 #[derive(Drop)]
 struct Passed(AtomicU32);
 
@@ -45,7 +45,7 @@ impl Passed {
         Passed(AtomicU32::new(0))
     }
 
-    /// A seat passes.
+    /// Records that a seat passes.
     fn note(&self, seat: u32) {
         self.0.store(seat.saturating_add(1), Ordering::SeqCst);
     }
@@ -54,7 +54,7 @@ impl Passed {
         self.0.load(Ordering::SeqCst) != 0
     }
 
-    /// Whether another seat than this one passed.
+    /// Returns whether another seat than this one passed.
     fn by_another_than(&self, seat: u32) -> bool {
         let who = self.0.load(Ordering::SeqCst);
         who != 0 && who != seat.saturating_add(1)
@@ -65,7 +65,7 @@ impl Passed {
 /// until another one is inside member 1.
 #[derive(Drop)]
 struct HoldsTwo {
-    /// Whether one leads first. It has made a slice of member 1 then, so that it is held at the next one.
+    /// Says whether one worker leads first. It has made a slice of member 1 then, so that it is held at the next one.
     is_led: bool,
     stepped: Passed,
     inside_first: Passed,
@@ -97,13 +97,13 @@ impl HoldsTwo {
         self.gave_up.store(true, Ordering::SeqCst);
     }
 
-    /// A seat is inside member 1.
+    /// Holds a seat that is inside member 1.
     fn hold_first(&self, seat: u32) {
         self.inside_first.note(seat);
         self.hold(seat, &self.ran_second);
     }
 
-    /// Whether all points were passed, and nobody waited in vain.
+    /// Returns whether all points were passed, and no seat waited in vain.
     fn held(&self) -> bool {
         self.inside_first.by_anybody()
             && self.began_second.by_anybody()
@@ -132,7 +132,7 @@ impl Gate for HoldsTwo {
     }
 }
 
-/// Whether two workers are inside fragments at the same time in the cases of a text.
+/// Returns whether two workers are inside fragments at the same time in the cases of a text.
 fn are_two_inside<R>(rt: &R, text: &str, is_led: bool) -> Result<bool, Fault>
 where
     R: Print + AllocGlobal + Threads + Wait + Sync,
@@ -145,7 +145,7 @@ where
     Ok(is_right && gate.held())
 }
 
-/// Whether two workers are inside fragments at the same time.
+/// Returns whether two workers are inside fragments at the same time.
 pub fn two_are_inside<R>(rt: &R) -> Result<bool, Fault>
 where
     R: Print + AllocGlobal + Threads + Wait + Sync,
@@ -153,7 +153,7 @@ where
     are_two_inside(rt, CASE, false)
 }
 
-/// The same, after one has led.
+/// Returns whether two workers are inside fragments at the same time after one has led.
 pub fn two_are_inside_once_led<R>(rt: &R) -> Result<bool, Fault>
 where
     R: Print + AllocGlobal + Threads + Wait + Sync,

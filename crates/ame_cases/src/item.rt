@@ -3,10 +3,10 @@
 use crate::fault::Fault;
 use std::alloc::{AllocError, Global};
 
-/// What stands before each line that belongs to the key above.
+/// The text before each line that belongs to the key above.
 const INDENT: &str = "    ";
 
-/// A key, and its lines: what stands behind the key, and the indented lines below.
+/// Holds a key and its lines: the text after the key, and the indented lines below.
 #[derive(Drop)]
 pub struct Item {
     /// The number of its line in the file, from 1.
@@ -14,7 +14,7 @@ pub struct Item {
     pub key: String,
     /// Each with its line feed.
     lines: String,
-    /// How many empty lines stand behind.
+    /// Counts the empty lines after it.
     gap: usize,
 }
 
@@ -37,7 +37,7 @@ impl Item {
         })
     }
 
-    /// One line more. Empty lines before it belong to the item as well.
+    /// Adds a line. Empty lines before it belong to the item as well.
     fn add(&mut self, line: &str) -> Result<(), AllocError> {
         for _ in 0..self.gap {
             self.lines.push_str("\n")?;
@@ -47,13 +47,13 @@ impl Item {
         self.lines.push_str("\n")
     }
 
-    /// The lines, the last without its line feed.
+    /// Returns the lines, the last without its line feed.
     pub fn value(&self) -> &str {
         let lines = self.lines.as_str();
         lines.strip_suffix('\n').unwrap_or(lines)
     }
 
-    /// The lines, each with its line feed.
+    /// Returns the lines, each with its line feed.
     pub fn into_lines(self) -> String {
         let Item {
             line: _,
@@ -64,12 +64,12 @@ impl Item {
         lines
     }
 
-    /// What is wrong with the item.
+    /// Returns a fault of the item.
     pub fn fault(&self, why: &'static str) -> Fault {
         Fault::Line(self.line, why)
     }
 
-    /// The number that stands behind the key.
+    /// Returns the number after the key.
     pub fn number(&self) -> Result<u64, Fault> {
         match self.value().parse::<u64>() {
             Ok(number) => Ok(number),
@@ -77,7 +77,7 @@ impl Item {
         }
     }
 
-    /// The same of a number that counts bytes.
+    /// Returns the number of bytes after the key.
     pub fn size(&self) -> Result<usize, Fault> {
         match self.value().parse::<usize>() {
             Ok(number) => Ok(number),
@@ -86,7 +86,7 @@ impl Item {
     }
 }
 
-/// The items of a text. Empty lines, and lines that begin with a semicolon, tell nothing.
+/// Returns the items of a text. Empty lines, and lines that begin with a semicolon, count for nothing.
 pub fn items_of(alloc: Global, text: &str) -> Result<Vec<Item>, Fault> {
     let mut items = Vec::new(alloc);
     let mut number = 0usize;
@@ -103,14 +103,14 @@ pub fn items_of(alloc: Global, text: &str) -> Result<Vec<Item>, Fault> {
     Ok(items)
 }
 
-/// An empty line.
+/// Counts an empty line.
 fn count_gap(items: &mut Vec<Item>) {
     if let Some(item) = items.last_mut() {
         item.gap = item.gap.saturating_add(1);
     }
 }
 
-/// An indented line.
+/// Adds an indented line.
 fn add_line(items: &mut Vec<Item>, number: usize, line: &str) -> Result<(), Fault> {
     match items.last_mut() {
         Some(item) => Ok(item.add(line)?),

@@ -1,4 +1,4 @@
-//! Whether what a call gave is what it must give.
+//! The comparison of what a call gave with what it must give.
 
 use crate::call::report_of;
 use crate::case::{Case, Fact};
@@ -12,8 +12,8 @@ use ame_worker::{Gate, NoGate};
 use std::sync::Wait;
 use std::thread::Threads;
 
-/// Runs a case, with each number of workers that it tells: whether all was as it must be. Those come all at once, where a gate could
-/// hold one, and once more behind one that leads.
+/// Runs a case with each number of workers that it lists, and returns whether all was as it must be. The workers come all at once, if a
+/// gate could hold one, and once more after one that leads.
 pub fn is_as_told<R>(rt: &R, case: &Case) -> Result<bool, Fault>
 where
     R: Print + AllocGlobal + Threads + Wait + Sync,
@@ -30,7 +30,7 @@ where
     Ok(is_right)
 }
 
-/// The same of one call, with a gate.
+/// Runs a case once, with a gate, and returns whether all was as it must be.
 pub fn is_call_as_told<R, G>(
     rt: &R,
     case: &Case,
@@ -57,7 +57,7 @@ where
     are_facts_as_told(rt, case, workers, &report)
 }
 
-/// Whether all facts that a case asks are as they must be.
+/// Returns whether all facts for which a case asks are as they must be.
 fn are_facts_as_told<R: Print + AllocGlobal>(
     rt: &R,
     case: &Case,
@@ -75,7 +75,7 @@ fn are_facts_as_told<R: Print + AllocGlobal>(
     Ok(is_right)
 }
 
-/// Whether what a call gave is this; where it isn't, both are printed.
+/// Returns whether what a call gave is this. If it isn't, prints both.
 fn is_same<R: Print>(
     rt: &R,
     fact: &Fact,

@@ -1,4 +1,4 @@
-//! What a run left, field by field.
+//! The state that a run left, field by field.
 
 use crate::fault::Fault;
 use crate::field::Field;
@@ -10,7 +10,7 @@ use ame_term::Loc;
 use ame_value::Val;
 use std::alloc::{AllocError, Global};
 
-/// What a run left of a field.
+/// Returns what a run left of a field.
 pub fn left(
     alloc: Global,
     report: &CaseReport,
@@ -27,7 +27,7 @@ pub fn left(
     }
 }
 
-/// The entries from which a run went on, and those that it added, a line each.
+/// Returns the entries from which a run went on, and those that it added, a line each.
 fn journal(alloc: Global, report: &CaseReport, is_alone: bool) -> Result<String, Fault> {
     let mut text = String::new(alloc);
     write_entries(&mut text, report.base(), is_alone)?;
@@ -35,7 +35,7 @@ fn journal(alloc: Global, report: &CaseReport, is_alone: bool) -> Result<String,
     Ok(text)
 }
 
-/// Lines of a journal. With several workers any seat may have made an entry, so each is told with seat 0.
+/// Writes lines of a journal. With several workers any seat may have made an entry, so each is written with seat 0.
 fn write_entries(text: &mut String, entries: &[Entry], is_alone: bool) -> Result<(), AllocError> {
     for entry in entries {
         let seat = if is_alone { entry.seat } else { 0 };
@@ -44,7 +44,7 @@ fn write_entries(text: &mut String, entries: &[Entry], is_alone: bool) -> Result
     Ok(())
 }
 
-/// A line of a journal.
+/// Writes a line of a journal.
 fn write_entry(text: &mut String, entry: &Entry, seat: u32) -> Result<(), AllocError> {
     let kind = kind_word(entry.kind);
     write!(text, "{kind} {seat} {} {}", entry.number, entry.steps)?;
@@ -67,7 +67,7 @@ fn kind_word(kind: EntryKind) -> &'static str {
     }
 }
 
-/// What was printed, a line each.
+/// Returns what was printed, a line each.
 fn output(alloc: Global, output: &[i64]) -> Result<String, Fault> {
     let mut text = String::new(alloc);
     for integer in output {
@@ -76,7 +76,7 @@ fn output(alloc: Global, output: &[i64]) -> Result<String, Fault> {
     Ok(text)
 }
 
-/// The events that counted, and how often a seat was in another's way, where that was.
+/// Returns the number of turns, and how often a seat was in another's way, if one was.
 fn turns(alloc: Global, run: &Left) -> Result<String, Fault> {
     let turns = run.turns();
     let (conflicts, invalids) = match run.ended() {
@@ -89,7 +89,7 @@ fn turns(alloc: Global, run: &Left) -> Result<String, Fault> {
     Ok(format!(in alloc; "{turns} with {conflicts} conflicts and {invalids} invalid reads\n")?)
 }
 
-/// How many values were put back; a weak run puts none back.
+/// Returns the number of values that were put back. A weak run puts none back.
 fn unwound(run: &Left) -> u64 {
     match run.ended() {
         Some(ended) => u64::from(ended.counters().unwound),
@@ -97,7 +97,7 @@ fn unwound(run: &Left) -> u64 {
     }
 }
 
-/// Each live cell, a line each.
+/// Returns each live cell, a line each.
 fn cells(alloc: Global, store: &Store<Val>) -> Result<String, Fault> {
     let mut text = String::new(alloc);
     for location in 0..store.len() {
@@ -110,7 +110,7 @@ fn cells(alloc: Global, store: &Store<Val>) -> Result<String, Fault> {
     Ok(text)
 }
 
-/// A value as it is told, with a line feed.
+/// Writes a value in the form of a case, with a line feed.
 fn write_value(text: &mut String, value: &Val) -> Result<(), AllocError> {
     match value {
         Val::Unit => writeln!(text, "unit"),

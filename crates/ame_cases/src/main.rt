@@ -1,5 +1,5 @@
-//! Runs the cases of the files and the folders that are named, and tells of each whether all came as it must. An example that is named is
-//! run, and what it writes is printed.
+//! Runs the cases of the files and the folders that are named, and reports of each whether all came as it must. An example that is named is
+//! run, and its output is printed.
 #![tactic(auto)]
 
 mod agrees;
@@ -70,7 +70,7 @@ where
     Ok(tally)
 }
 
-/// Tells what is wrong with a file or a folder.
+/// Reports what is wrong with a file or a folder.
 fn tell<R: Print>(rt: &R, name: &str, fault: Fault) -> Result<Tally, Fault> {
     match fault {
         Fault::Line(line, why) => println!(rt; "{name}:{line}: {why}")?,
@@ -106,7 +106,7 @@ fn run_check<R: Print>(rt: &R, name: &str, is_right: bool) -> Result<Tally, Faul
     Ok(Tally::of(is_right))
 }
 
-/// Does what a word asks for. A number says how many workers run the examples behind it.
+/// Does what a word asks for. A number sets the number of workers for the examples after it.
 fn run_word<R>(rt: &R, word: &str, workers: &mut u32) -> Result<Tally, Fault>
 where
     R: Files + Print + AllocGlobal + Threads + Wait + Sync + Clone + Drop,

@@ -27,7 +27,7 @@ impl Source for Text {
     }
 }
 
-/// Keeps what is written, and fails where there is no memory.
+/// Keeps what is written, and fails if there is no memory.
 #[derive(Drop)]
 pub struct Page {
     pub bytes: Vec<u8>,

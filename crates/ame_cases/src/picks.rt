@@ -1,11 +1,11 @@
-//! What each pick of a run on one thread did.
+//! The effect of each pick of a run on one thread.
 
 use crate::fault::Fault;
 use ame_app::{Extra, Left, Ran};
 use ame_shell::Outcome;
 use std::alloc::Global;
 
-/// The seats in the order of their picks, and what each did, with a line for picks of the same seat in a row.
+/// Returns the seats in the order of their picks, and the effect of each, with a line for picks of one seat in a row.
 pub fn picks(alloc: Global, run: &Option<Ran>) -> Result<String, Fault> {
     let mut text = String::new(alloc);
     let Some(

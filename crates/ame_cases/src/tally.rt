@@ -1,6 +1,6 @@
-//! How many cases came out as they must.
+//! The numbers of cases that came out as they must, and of others.
 
-/// How many cases came out as they must, and how many didn't.
+/// Counts the cases that came out as they must, and those that didn't.
 #[derive(Clone, Copy)]
 pub struct Tally {
     pub right: u64,
@@ -12,7 +12,7 @@ impl Tally {
         Tally { right: 0, wrong: 0 }
     }
 
-    /// Of one case.
+    /// Counts one case.
     pub fn of(is_right: bool) -> Tally {
         if is_right {
             Tally { right: 1, wrong: 0 }

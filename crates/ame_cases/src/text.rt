@@ -1,4 +1,4 @@
-//! What the lines of an item spell: words, numbers and bytes.
+//! The words, numbers and bytes that the lines of an item spell.
 
 use crate::fault::Fault;
 use crate::item::Item;
@@ -17,7 +17,7 @@ pub fn split_words(alloc: Global, words: &mut Vec<String>, line: &str) -> Result
     Ok(())
 }
 
-/// The numbers that stand behind the key.
+/// Returns the numbers after the key.
 pub fn numbers(alloc: Global, item: &Item) -> Result<Vec<u64>, Fault> {
     let mut numbers = Vec::new(alloc);
     for word in item.value().split(' ') {
@@ -41,7 +41,7 @@ pub fn integers(alloc: Global, item: &Item, line: &str) -> Result<Vec<i64>, Faul
     Ok(integers)
 }
 
-/// The bytes that an item tells by their numbers.
+/// Appends the bytes that an item lists as numbers.
 pub fn add_bytes(text: &mut Vec<u8>, item: &Item) -> Result<(), Fault> {
     for word in item.value().split(' ') {
         match word.parse::<u8>() {
@@ -52,7 +52,7 @@ pub fn add_bytes(text: &mut Vec<u8>, item: &Item) -> Result<(), Fault> {
     Ok(())
 }
 
-/// A piece, so many times.
+/// Appends a piece a number of times.
 pub fn add_piece(text: &mut Vec<u8>, item: &Item) -> Result<(), Fault> {
     let Some((times, piece)) = piece_of(item.value()) else {
         return Err(item.fault("a number and a piece in quotes stand behind this key"));
@@ -66,7 +66,7 @@ pub fn add_piece(text: &mut Vec<u8>, item: &Item) -> Result<(), Fault> {
     Ok(())
 }
 
-/// A number, a space and a piece in quotes.
+/// Reads a number, a space and a piece in quotes.
 fn piece_of(value: &str) -> Option<(usize, &str)> {
     let (times, quoted) = value.split_once(' ')?;
     let piece = quoted.strip_prefix('"')?.strip_suffix('"')?;

@@ -1,4 +1,4 @@
-//! What a report tells, field by field, in the form of a case's lines. Reports and their statuses are read here alone.
+//! The content of a report, field by field, in the form of a case's lines. Only this file reads reports and their statuses.
 
 use crate::agrees::agrees;
 use crate::case::Case;
@@ -11,17 +11,16 @@ use crate::replay::replayed;
 use ame_app::{Extra, Left, Ran, Report};
 use ame_code::Code;
 use ame_device::Device;
-use ame_engine::Certificate;
 use ame_io::MemSink;
-use ame_journal::{Journal, JournalFault};
+use ame_journal::{Certificate, Journal, JournalFault};
 use ame_strong::StrongState;
 use ame_term::copy_term;
 use std::alloc::Global;
 
-/// What a call reports.
+/// Names the report of a call.
 pub type CaseReport = Report<MemSink, Boxed>;
 
-/// What a call gave of a field, by one worker alone or by several.
+/// Returns what a call gave of a field, with one worker or with several.
 pub fn told(
     alloc: Global,
     case: &Case,
@@ -60,24 +59,24 @@ pub fn told(
     }
 }
 
-/// A number on a line.
+/// Returns a number on a line.
 pub fn line(alloc: Global, number: u64) -> Result<String, Fault> {
     Ok(format!(in alloc; "{number}\n")?)
 }
 
-/// A word on a line.
+/// Returns a word on a line.
 fn word(alloc: Global, word: &str) -> Result<String, Fault> {
     Ok(format!(in alloc; "{word}\n")?)
 }
 
-/// What was written, and a line feed.
+/// Returns what was written, and a line feed.
 fn written(alloc: Global, bytes: &[u8]) -> Result<String, Fault> {
     let mut text = String::from_utf8_lossy(alloc, bytes)?;
     text.push_str("\n")?;
     Ok(text)
 }
 
-/// Whether a run was begun.
+/// Returns whether a run was begun.
 fn begun(alloc: Global, report: &CaseReport) -> Result<String, Fault> {
     match &report.run {
         Some(_) => word(alloc, "some"),
@@ -85,7 +84,7 @@ fn begun(alloc: Global, report: &CaseReport) -> Result<String, Fault> {
     }
 }
 
-/// From how many entries a run went on, where it did.
+/// Returns the number of entries from which a run went on, if it did.
 fn resumed(alloc: Global, run: &Option<Ran>) -> Result<String, Fault> {
     match run {
         Some(
@@ -98,7 +97,7 @@ fn resumed(alloc: Global, run: &Option<Ran>) -> Result<String, Fault> {
     }
 }
 
-/// The calls that each device answered, a line each.
+/// Returns the calls that each device answered, a line each.
 fn heard(alloc: Global, devices: &[Boxed]) -> Result<String, Fault> {
     let mut text = String::new(alloc);
     for (number, device) in devices.iter().enumerate() {
@@ -111,7 +110,7 @@ fn heard(alloc: Global, devices: &[Boxed]) -> Result<String, Fault> {
     Ok(text)
 }
 
-/// Number, steps and new locations of each member that is blocked, a line each.
+/// Returns the number, steps and new locations of each blocked member, a line each.
 fn certificates(alloc: Global, blocked: &[Certificate]) -> Result<String, Fault> {
     let mut text = String::new(alloc);
     for certificate in blocked {
@@ -124,7 +123,7 @@ fn certificates(alloc: Global, blocked: &[Certificate]) -> Result<String, Fault>
     Ok(text)
 }
 
-/// How many names, or types of locations, a program has.
+/// Returns the number of names, or of types of locations, in a program.
 fn sizes(alloc: Global, code: &Code, field: Field) -> Result<String, Fault> {
     let accepted = code.accepted();
     let count = match field {
@@ -134,7 +133,7 @@ fn sizes(alloc: Global, code: &Code, field: Field) -> Result<String, Fault> {
     Ok(format!(in alloc; "{count}\n")?)
 }
 
-/// What the strong semantics comes to by the certificate, or by the journal of the run.
+/// Returns the result of the strong semantics by the certificate, or by the journal of the run.
 fn replay(alloc: Global, case: &Case, report: &CaseReport) -> Result<String, Fault> {
     let Some(run) = &report.run else {
         return word(alloc, "none");
@@ -153,7 +152,7 @@ fn replay(alloc: Global, case: &Case, report: &CaseReport) -> Result<String, Fau
     }
 }
 
-/// Whether a run was begun, and left what its journal comes to.
+/// Returns whether a run was begun, and left the state to which its journal leads.
 fn does_agree(alloc: Global, report: &CaseReport) -> Result<bool, Fault> {
     match &report.run {
         Some(run) => agrees(alloc, report, run),
@@ -161,7 +160,7 @@ fn does_agree(alloc: Global, report: &CaseReport) -> Result<bool, Fault> {
     }
 }
 
-/// The journal that lines spell.
+/// Returns the journal that lines spell.
 fn journal(alloc: Global, lines: &str) -> Result<Option<Journal>, Fault> {
     if lines.len() > 67_108_864 {
         return Ok(None);
@@ -173,13 +172,13 @@ fn journal(alloc: Global, lines: &str) -> Result<Option<Journal>, Fault> {
     }
 }
 
-/// How many members are left, and what was printed.
+/// Returns the number of members that are left, and what was printed.
 fn come_to(alloc: Global, state: &StrongState) -> Result<String, Fault> {
     let output = integers(alloc, state.output())?;
     Ok(format!(in alloc; "members {}\noutput{output}\n", state.pool_len())?)
 }
 
-/// Integers, each behind a space.
+/// Returns integers, each after a space.
 pub fn integers(alloc: Global, integers: &[i64]) -> Result<String, Fault> {
     let mut text = String::new(alloc);
     for integer in integers {

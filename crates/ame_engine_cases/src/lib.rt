@@ -1,4 +1,4 @@
-//! Tests of what an engine stands on, of which whole calls show too little.
+//! Tests of the parts that an engine stands on, since whole calls show too little of them.
 #![tactic(auto)]
 
 #[cfg(test)]

@@ -1,4 +1,4 @@
--- What a machine that can run is fed, it goes on with.
+-- A machine that can run goes on with any value that it is fed.
 use Rattle.std.proofs.Common.{◌≡◌, ℕ, ℤ, Option, Some, refl, sym, ap, ◌∙◌, subst}
 use Rattle.std.specs.Prelude.{IsTrue}
 use Rattle.ame_term.specs.Tree.{Typ, Val, Tree}

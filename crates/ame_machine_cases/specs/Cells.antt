@@ -1,4 +1,4 @@
--- What was set at locations.
+-- The values that were set at locations.
 use Rattle.std.specs.Prelude.{◌≡◌, ℕ, ◌<◌, List, length, slice_index_or}
 use Rattle.ame_value.specs.View.{flat_value}
 use Rattle.ame_value.specs.declared.val.Val.{Val}

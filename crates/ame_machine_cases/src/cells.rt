@@ -1,4 +1,4 @@
-//! What a machine that runs alone has set.
+//! The values that a machine that runs alone has set.
 
 ghost use Rattle.std.specs.Prelude.{IfOk, IfSome};
 ghost use Rattle.ame_machine_cases.specs.Cells.{IsHeldAt};
@@ -13,7 +13,7 @@ pub struct Cell {
     pub value: Val,
 }
 
-/// A copy of what was set last at a location.
+/// Copies the value that was set last at a location.
 pub(crate) fn held(cells: &[Cell], l: Loc) -> Result<Option<Val>, NoMemory>
     ensures { IfOk result (λ found. IfSome found (λ v. IsHeldAt cells.now l.0 v)) }
 {

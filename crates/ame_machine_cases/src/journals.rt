@@ -1,4 +1,4 @@
-//! Journals that can't be made, each with its reason. The verdicts alone are told by whole calls of `check`.
+//! Journals that can't be made, each with its reason. Whole calls of `check` test the verdicts alone.
 
 use crate::texts::code_of;
 use ame_check::{Judged, Reason, judge};
@@ -57,7 +57,7 @@ const ROWS: &[(&[u8], &[u8], u64, Reason)] = &[
     ),
 ];
 
-/// The judgment of the text of a journal.
+/// Judges the text of a journal.
 fn judged(alloc: Global, text: &[u8], journal: &[u8]) -> Result<Judged, Fail> {
     if journal.len() > 10_000 {
         return Err("too long".into());

@@ -11,7 +11,7 @@ use ame_machine::{Runner, Wants};
 use ame_term::{Copied, NoMemory};
 use std::alloc::Global;
 
-/// So many steps are far from the end of numbers.
+/// A number of steps that is far from the end of numbers.
 const MOST_STEPS: u64 = 1_099_511_627_776;
 
 /// A machine, what was set at its locations, the latest last, and the number of the next location.
@@ -25,7 +25,7 @@ pub struct Lone {
 impl Lone {
     ghost use Rattle.ame_machine_cases.specs.Alone.{IsAlone, far_steps};
 
-    /// At the beginning of a program.
+    /// Starts at the beginning of a program.
     pub fn start(alloc: Global, code: &Code) -> Result<Lone, NoMemory>
         ensures { IfOk result (λ lone. IsAlone code.now lone) }
     {
@@ -37,14 +37,14 @@ impl Lone {
         })
     }
 
-    /// Whether it has made so few steps that it can run on.
+    /// Returns whether it has made few enough steps to run on.
     pub fn is_young(&self) -> bool
         ensures { (code : FlatCode) → result ≡ true → (stage_by code self.now.machine).steps ≤ far_steps }
     {
         self.machine.steps() <= MOST_STEPS
     }
 
-    /// Runs to what is wanted next, by so many steps at most.
+    /// Runs to what is wanted next, by at most this number of steps.
     pub fn advance(&mut self, alloc: Global, code: &Code, fuel: u32) -> Result<Wants, NoMemory>
         requires alone { IsAlone code.now self.old }
         requires young { (stage_by code.now self.old.machine).steps ≤ far_steps }
@@ -68,7 +68,7 @@ impl Lone {
         self.machine.checked();
     }
 
-    /// A copy of the machine, which goes on without cells.
+    /// Copies the machine, and goes on without cells.
     pub fn copy_machine(&self, alloc: Global) -> Result<Lone, NoMemory>
         ensures { IfOk result (λ lone. (code : FlatCode) → IsAlone code self.now → IsAlone code lone) }
     {
@@ -80,7 +80,7 @@ impl Lone {
         })
     }
 
-    /// The first new member, over the same cells.
+    /// Takes the first new member, over the same cells.
     pub fn into_spawn(self, alloc: Global) -> Option<Lone>
         ensures { IfSome result (λ lone. (code : FlatCode) → IsAlone code self → IsAlone code lone) }
     {

@@ -15,7 +15,7 @@ use std::alloc::Global;
 use std::process::Abort;
 use std::test::Fail;
 
-/// The program of a text. The types aren't asked.
+/// Reads the program of a text, without a check of types.
 pub(crate) fn read(alloc: Global, text: &[u8]) -> Result<Program, Fail> {
     if text.len() > 1_048_576 {
         return Err("too long".into());
@@ -24,7 +24,7 @@ pub(crate) fn read(alloc: Global, text: &[u8]) -> Result<Program, Fail> {
     Ok(parse(alloc, text, &tokens)?)
 }
 
-/// The program of a text that the types accept, which may call so many devices.
+/// Reads and accepts the program of a text that may call this number of devices.
 pub(crate) fn accept(alloc: Global, text: &[u8], devices: u32) -> Result<Accepted, Fail>
     requires { devices ≤ max_devices }
 {
@@ -35,12 +35,12 @@ pub(crate) fn accept(alloc: Global, text: &[u8], devices: u32) -> Result<Accepte
     }
 }
 
-/// The code of a text, which may call two devices.
+/// Compiles a text that may call two devices.
 pub(crate) fn code_of(alloc: Global, text: &[u8]) -> Result<Code, Fail> {
     Ok(compile(alloc, accept(alloc, text, 2)?)?)
 }
 
-/// Runs a machine to what it wants next. Where memory is refused once, it goes on from there.
+/// Runs a machine to what it wants next. If memory is refused once, it goes on from there.
 pub(crate) fn run(
     rt: &impl Abort,
     alloc: Global,

@@ -1,4 +1,4 @@
-//! What machines want, each want in its turn, and what they print in protected code.
+//! The wants of machines, each in its turn, and what they print in protected code.
 
 ghost use Rattle.ame_machine_cases.specs.Alone.{IsAlone};
 
@@ -53,7 +53,7 @@ fn goes_on(rt: &impl Abort, code: &Code, lone: &mut Lone, want: Wants) -> Result
     serve(rt, code, lone)
 }
 
-/// One want more, behind a space.
+/// Appends one more want, after a space.
 fn add(alloc: Global, wanted: &mut String, want: Wants) -> Result<(), AllocError> {
     if wanted.len() > 0 {
         wanted.push_str(" ")?;
@@ -63,7 +63,7 @@ fn add(alloc: Global, wanted: &mut String, want: Wants) -> Result<(), AllocError
     Ok(())
 }
 
-/// All that is wanted, in order.
+/// Returns all that is wanted, in order.
 fn all_wants(rt: &impl Abort, alloc: Global, code: &Code) -> Result<String, Fail> {
     let mut lone = Lone::start(alloc, code)?;
     let mut wanted = String::new(alloc);

@@ -27,7 +27,7 @@ const LABELS: &[Label] = &[
     Label::End,
 ];
 
-/// What some labels come to, as text.
+/// Labels, with their outcome as text.
 const COME_TO: &[(&[Label], &[u8])] = &[
     (
         LABELS,
@@ -49,7 +49,7 @@ fn with_number(alloc: Global, word: &[u8], number: u64) -> Result<Vec<u8>, Fail>
     Ok(text)
 }
 
-/// What labels come to: the lines of the journal, or a word and a number below 10.
+/// Returns the outcome of labels: the lines of the journal, or a word and a number below 10.
 fn straightened(alloc: Global, labels: &[Label]) -> Result<Vec<u8>, Fail> {
     let accepted = accept(alloc, INTERLEAVED, 0)?;
     match straighten(alloc, &accepted, labels, &[])? {

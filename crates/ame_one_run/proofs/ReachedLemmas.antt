@@ -21,7 +21,7 @@ use Rattle.ame_laws.proofs.RuleEffects.{row_of}
 use Rattle.ame_journal.specs.declared.entry.EntryKind.{EntryKind}
 use Rattle.ame_journal.specs.Replayed.{Replayed, has_such, side_at, is_false_condition, value_height, coming_height, is_tall}
 use Rattle.ame_journal.specs.Labels.{fragment_labels, free_labels, attempt_labels, Unfolds}
-use Rattle.ame_protocol.specs.declared.certificate.Certificate.{Certificate}
+use Rattle.ame_journal.specs.declared.certificate.Certificate.{Certificate}
 use Rattle.ame_protocol.specs.Waits.Certificates.{IsCertificate}
 use Rattle.ame_protocol.specs.Event.Faults.{ComesToCall}
 use Rattle.ame_one_run.specs.Reached.{Fails, IsBlockedIn, ComesToCallOf, GrowsTooHigh}

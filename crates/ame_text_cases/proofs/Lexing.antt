@@ -13,7 +13,7 @@ use Rattle.ame_parse.specs.Seen.{seen}
 use Rattle.ame_print.specs.Layout.{Printed, is_open_kind, is_close_kind, gap}
 use Rattle.ame_print.proofs.Canon.{token_of, tokens_of, IsAlone}
 
--- the text behind this one has tokens, which are these
+-- the text after this one has these tokens
 pub record LexedBehind (front text : Text) (tokens : List Printed) : Type 0 where
   pub found : List Token
   pub lexes : Lexes (length front) text (Ok found)
@@ -38,7 +38,7 @@ after_blank b text tokens is lexed front =
       same = subst (λ z. tokens_of (map (seen z) behind.found) ≡ tokens) (append_assoc front (b ∷ []) text) behind.same;
     }
 
--- what stands behind a text
+-- the rest after a text
 stands : (front bytes more : Text) → slice_range (front ++ (bytes ++ more)) (length front) (length front + length bytes) ≡ bytes
 stands front bytes more =
     let len : length front + length bytes - length front ≡ length bytes = omega arith in

@@ -1,4 +1,4 @@
--- Canonical tokens are read as their term, where names and scope stay as they are.
+-- Canonical tokens are read as their term, and names and scope stay as they are.
 use Rattle.std.proofs.Common.{◌≡◌, refl, sym, ap, subst, ◌∙◌, ℕ, suc, ◌-◌, ◌≤◌, ◌<◌, ◌^◌, ◌==◌, pos, true, List, [], ◌∷◌, ◌++◌, take, length, length-append, append_assoc, arith}
 use Rattle.std.specs.Prelude.{codes}
 use Rattle.std.specs.List.{list_any}
@@ -26,11 +26,11 @@ use Rattle.ame_print.proofs.Numbers.{number_alone}
 use Rattle.ame_print.proofs.Parts.{Part, Moves, Shut, begun, both, mapped, regrouped, within, behind_ref, atom, shut_part, form_part}
 use Rattle.ame_text_cases.specs.Workload.{numeral}
 
--- the tokens are read as the term, with at most so many parentheses open, between inputs like these
+-- the tokens are read as the term, with at most this number of parentheses open, between inputs like these
 abbrev pub IsPart : List Printed → ℕ → Input → Tree → Input → Type 0
 IsPart tokens n i tree j = Part tokens (λ i' j'. IsTerm n i' tree j') i j
 
--- an input with these names, of which those with these numbers are bound, behind so many `ref` forms
+-- an input with these names, whose bound ones have these numbers, after this number of `ref` forms
 abbrev pub input_with : List Text → List ℕ → ℕ → Input
 input_with names scope refs = record { rest = []; end = 0; names = names; scope = scope; places = []; refs = refs }
 

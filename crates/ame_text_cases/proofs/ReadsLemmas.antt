@@ -125,12 +125,12 @@ reads_transfer n t valid =
     let from : t.from < 9 = omega (arith, valid.from) in
     let to : t.to < 9 = omega (arith, valid.to) in
     let amount : t.amount < 2 ^ 63 = omega (arith, valid.most) in
-    let enough = reads_two (suc n) (content t.from) (numeral t.amount) (IsBinary.operation IsOp.less) (reads_content n t.from from) (reads_number (suc n) t.amount amount) in
+    let enough = reads_two (suc n) (content t.from) (numeral t.amount) (IsBinary.operation (IsOp.spells op.Less)) (reads_content n t.from from) (reads_number (suc n) t.amount amount) in
     reads_member (deep n) (transfer_parts t) (omega arith)
     (more (deep n) _ _ (reads_one (suc (suc (suc n))) _ IsUnary.block_until (reads_one (suc (suc n)) _ IsUnary.negation enough))
-    (more (deep n) _ _ (reads_updated (suc n) t.from t.amount IsOp.minus from amount)
-    (more (deep n) _ _ (reads_updated (suc n) t.to t.amount IsOp.plus to amount)
-    (more (deep n) _ _ (reads_updated (suc n) counter 1 IsOp.plus (omega arith) (omega arith))
+    (more (deep n) _ _ (reads_updated (suc n) t.from t.amount (IsOp.spells op.Sub) from amount)
+    (more (deep n) _ _ (reads_updated (suc n) t.to t.amount (IsOp.spells op.Add) to amount)
+    (more (deep n) _ _ (reads_updated (suc n) counter 1 (IsOp.spells op.Add) (omega arith) (omega arith))
     (none (deep n))))))
 
 pub reads_print : (n x : ℕ) → x < 9 → Reads (suc (suc n)) (print_term x)
@@ -154,7 +154,7 @@ waits_term size = Tree.One unary.Block (Tree.Two (binary.Bin op.Same) (content c
 pub reads_waits : (n size : ℕ) → size < 2 ^ 63 → Reads (suc (suc (suc n))) (waits_term size)
 reads_waits n size small =
     reads_one (suc (suc n)) _ IsUnary.block_until
-    (reads_two (suc n) (content counter) (numeral size) (IsBinary.operation IsOp.equals) (reads_content n counter (omega arith)) (reads_number (suc n) size small))
+    (reads_two (suc n) (content counter) (numeral size) (IsBinary.operation (IsOp.spells op.Same)) (reads_content n counter (omega arith)) (reads_number (suc n) size small))
 
 reads_report : (n size : ℕ) → size < 2 ^ 63 → Reads (suc (suc (deep n))) (report_term size)
 reads_report n size small =

@@ -10,6 +10,7 @@ use Rattle.ame_term.specs.HasType.{HasBinary, HasType, HasLast}
 use Rattle.ame_term.specs.declared.types.Sort.{Sort}
 use Rattle.ame_term.specs.declared.types.Effect.{Effect}
 use Rattle.ame_term.specs.declared.types.Op.{Op}
+use Rattle.ame_term.specs.declared.types.Op.TheVariants as op
 use Rattle.ame_term.specs.declared.types.Binary.TheVariants as binary
 use Rattle.ame_parse.specs.Forms.{row}
 use Rattle.ame_gen.specs.declared.transfers.Transfer.{Transfer}
@@ -67,10 +68,10 @@ module _ (devices : ℕ) where
       let to : t.to < 9 = omega (arith, valid.to) in
       let last : counter < 9 = omega arith in
       rule.async (rule.sequence
-      (on_top (rule.one rule.block (rule.one rule.negation (rule.two rule.less (content_typed t.from from) (rule.held rule.int))))
-      (on_top (updated_typed _ t.from t.amount rule.difference from)
-      (on_top (updated_typed _ t.to t.amount rule.sum to)
-      (rule.last (updated_typed _ counter 1 rule.sum last))))))
+      (on_top (rule.one rule.block (rule.one rule.negation (rule.two (rule.operation op.Less) (content_typed t.from from) (rule.held rule.int))))
+      (on_top (updated_typed _ t.from t.amount (rule.operation op.Sub) from)
+      (on_top (updated_typed _ t.to t.amount (rule.operation op.Add) to)
+      (rule.last (updated_typed _ counter 1 (rule.operation op.Add) last))))))
 
   print_typed : (x : ℕ) → x < 9 → Has (print_term x) Typ.Unit
   print_typed x h = rule.one rule.print (content_typed x h)
@@ -82,7 +83,7 @@ module _ (devices : ℕ) where
   report_typed : (size : ℕ) → Has (report_term size) Typ.Unit
   report_typed size =
       rule.async (rule.sequence
-      (on_top (rule.one rule.block (rule.two rule.equal (content_typed counter (omega arith)) (rule.held rule.int)))
+      (on_top (rule.one rule.block (rule.two (rule.operation op.Same) (content_typed counter (omega arith)) (rule.held rule.int)))
       (prints_typed 0 (1 ∷ 2 ∷ 3 ∷ 4 ∷ 5 ∷ 6 ∷ 7 ∷ []) (omega arith)
       (omega arith, (omega arith, (omega arith, (omega arith, (omega arith, (omega arith, (omega arith, tt))))))))))
 

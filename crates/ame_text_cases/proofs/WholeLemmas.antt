@@ -1,4 +1,4 @@
--- What tokens that are lexed and read make of their text.
+-- Tokens that are lexed and read, and their text.
 use Rattle.std.proofs.Common.{◌≡◌, refl, sym, ap, ◌∙◌, ℕ, true, List, [], ◌∷◌, map, append-nil}
 use Rattle.ame_lex.specs.Bytes.{Text}
 use Rattle.ame_parse.specs.declared.ahead.Ahead.TheVariants as a

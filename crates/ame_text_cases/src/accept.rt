@@ -19,7 +19,7 @@ use ame_term::{Accepted, NoMemory, Program};
 use ame_types::{TypesFail, check};
 use std::alloc::Global;
 
-/// The program of a text that is read as one.
+/// Reads the program of a text.
 fn program_of(alloc: Global, text: &[u8]) -> Result<Program, NoMemory>
     requires short { length text.now ≤ max_text }
     requires reads { IsOk (reading text.now) }
@@ -38,7 +38,7 @@ fn program_of(alloc: Global, text: &[u8]) -> Result<Program, NoMemory>
     }
 }
 
-/// A typed program, accepted.
+/// Accepts a typed program.
 fn accepted_of(alloc: Global, program: Program, devices: u32) -> Result<Accepted, NoMemory>
     requires devices { devices ≤ max_devices }
     requires typed { typing devices program.places.items (tree_of program.term) ≡ Ok Typ.Unit }
@@ -47,12 +47,12 @@ fn accepted_of(alloc: Global, program: Program, devices: u32) -> Result<Accepted
 {
     match check(alloc, program, devices) {
         Ok(accepted) => Ok(accepted),
-        Err(TypesFail::NoMemory) => Err(NoMemory),
+        Err(TypesFail::TooLarge | TypesFail::NoMemory) => Err(NoMemory),
         Err(TypesFail::Fault(_)) => unreachable!(),
     }
 }
 
-/// The generated program, read from its text and accepted on so many devices. No text has a fault; memory may be wanting.
+/// Reads the generated program from its text, and accepts it on this number of devices. No text has an error, but memory may run out.
 pub fn accepted_workload(
     alloc: Global,
     seed: u32,

@@ -1,4 +1,4 @@
-//! What holds of the generated program and its text. Each is a fact for proofs, and does nothing.
+//! Facts about the generated program and its text. Each is a fact for proofs, and does nothing.
 
 ghost use Rattle.std.specs.Prelude.{◌≡◌, ◌≤◌, ℕ, List, Ok, length};
 ghost use Rattle.ame_gen.specs.Template.{program_text};
@@ -16,7 +16,7 @@ use ame_laws::table_gives_what_is_had;
 use ame_lex::grammar_is_reading;
 use ame_parse::spelled_is_read;
 
-/// The program is Unit under protected, on any number of devices and wherever its nodes stand.
+/// Says that the program is Unit under protected, on any number of devices and wherever its nodes stand.
 pub fn workload_is_typed()
     ensures { (seed size devices : ℕ) (places : List ℕ) → typing devices places (workload_term seed size) ≡ Ok Typ.Unit }
 {
@@ -24,7 +24,7 @@ pub fn workload_is_typed()
     table_gives_what_is_had();
 }
 
-/// The text has the tokens of the program's canonical text.
+/// Says that the text has the tokens of the program's canonical text.
 pub fn text_has_canonical_tokens()
     ensures { (seed size : ℕ) → 1 ≤ size → size ≤ SIZE_LIMIT → HaveSameTokens (program_text seed size) (source_text (workload seed size)) }
 {
@@ -32,7 +32,7 @@ pub fn text_has_canonical_tokens()
     grammar_is_reading();
 }
 
-/// The text is read as the program, and so is the canonical text.
+/// Says that the text is read as the program, and so is the canonical text.
 pub fn text_is_read()
     ensures text { (seed size : ℕ) → 1 ≤ size → size ≤ SIZE_LIMIT → ReadsAs (program_text seed size) (workload seed size) }
     ensures canonical { (seed size : ℕ) → 1 ≤ size → size ≤ SIZE_LIMIT → ReadsAs (source_text (workload seed size)) (workload seed size) }
@@ -41,7 +41,7 @@ pub fn text_is_read()
     spelled_is_read();
 }
 
-/// The text is short enough to be read, and what is read of it is Unit under protected, on any number of devices.
+/// Says that the text is short enough to be read, and what is read of it is Unit under protected, on any number of devices.
 pub fn text_is_accepted()
     ensures short { (seed size : ℕ) → size ≤ SIZE_LIMIT → length (program_text seed size) ≤ max_text }
     ensures accepted { (seed size devices : ℕ) → 1 ≤ size → size ≤ SIZE_LIMIT

@@ -2,7 +2,7 @@
 
 mod store;
 
-ghost use Rattle.std.specs.Prelude.{◌≡◌, ◌++◌, ◌∷◌, [], IfOk, OnOk, List, length, map, ℕ};
+ghost use Rattle.std.specs.Prelude.{◌≡◌, ◌++◌, ◌∷◌, [], IfOk, OnOk, List, length, ℕ};
 ghost use Rattle.std.specs.Arc.{arc_value};
 ghost use Rattle.ame_io.specs.Lines.{lines};
 ghost use Rattle.ame_cli.specs.Ranges.{IsInRange};
@@ -12,7 +12,7 @@ ghost use Rattle.ame_device.specs.declared.told.Told.{Told};
 ghost use Rattle.ame_journal.specs.JournalView.{IsFit};
 ghost use Rattle.ame_runner.specs.Ended.{IsWeakRunOf, TellsStop, notes_of_stop};
 ghost use Rattle.ame_app.specs.Headline.{limits_of};
-ghost use Rattle.ame_app.specs.Jobs.{certificate_told, certificates_told, stop_told, HasLeft, IsWeakRunMade, LeadsToLeft, LeavesFit, TellsWeakly};
+ghost use Rattle.ame_app.specs.Jobs.{certificates_told, stop_told, HasLeft, IsWeakRunMade, LeadsToLeft, LeavesFit, TellsWeakly};
 ghost use Rattle.ame_app.specs.Verbs.Weak.{alone_with};
 
 use crate::left::{Left, WeakEnd};
@@ -23,18 +23,18 @@ use ame_check::Replay;
 use ame_cli::{Item, Options};
 use ame_code::Code;
 use ame_device::Device;
-use ame_engine::{Certificate, Stop};
+use ame_engine::Stop;
 use ame_eval::Fragment;
 use ame_io::{Sink, lines_of};
-use ame_journal::{Entry, Journal};
+use ame_journal::{Certificate, Entry, Journal};
 use ame_runner::{WeakRun, WeakStop, weak_run};
 use ame_shell::Io;
 use ame_store::Store;
-use ame_term::{NoMemory, push};
+use ame_term::NoMemory;
 use ame_value::Val;
 use ame_weak::{
-    Certificate as Failing, Straight, calls_are_told_with, straighten, tries_straighten,
-    weak_calls_are_told, weak_runs_are_typed,
+    Straight, calls_are_told_with, straighten, tries_straighten, weak_calls_are_told,
+    weak_runs_are_typed,
 };
 use std::alloc::Global;
 use std::sync::Arc;
@@ -49,22 +49,6 @@ fn alone_with(turns: u32) -> Options
         turns,
         slice: Item::Slice.default(),
     }
-}
-
-/// Returns certificates of members that are blocked, as those of an engine.
-fn certificates_of(alloc: Global, failing: Vec<Failing>) -> Result<Vec<Certificate>, NoMemory>
-    ensures { IfOk result (λ certificates. certificates.items ≡ map certificate_told failing.items) }
-{
-    let mut certificates = Vec::new(alloc);
-    for one in failing {
-        let certificate = Certificate {
-            number: one.number,
-            steps: one.steps,
-            fresh: one.fresh,
-        };
-        push(&mut certificates, certificate)?;
-    }
-    Ok(certificates)
 }
 
 /// Adds the note of a member that grew too tall to a journal, and returns the stop of the run.
@@ -93,7 +77,7 @@ fn told_of(
 {
     match stop {
         WeakStop::Finished => Ok((Stop::Finished, Vec::new(alloc))),
-        WeakStop::Blocked(failing) => Ok((Stop::Blocked, certificates_of(alloc, failing)?)),
+        WeakStop::Blocked(certificates) => Ok((Stop::Blocked, certificates)),
         WeakStop::Spent => Ok((Stop::Spent, Vec::new(alloc))),
         WeakStop::DeviceFault(device) => Ok((Stop::DeviceFault(device), Vec::new(alloc))),
         WeakStop::Tall(entry) => Ok((tall_of(journal, entry)?, Vec::new(alloc))),

@@ -11,7 +11,7 @@ use std::alloc::{AllocError, Global};
 use std::sync::Wait;
 use std::test::*;
 
-/// A tally for so many seats under a baton, and the first seat.
+/// Makes a tally for this many seats under a baton, and the first seat.
 fn opened<R: Wait>(
     rt: &R,
     alloc: Global,

@@ -35,7 +35,7 @@ struct Call {
     step: Step,
 }
 
-/// What a call told.
+/// The answer of a call.
 #[derive(Clone, Copy, PartialEq, Eq, Debug)]
 enum Told {
     Unmet,
@@ -53,7 +53,7 @@ enum Told {
 /// A cell's value, number and owner, and whether it is live.
 type State = (i64, u64, Option<u32>, bool);
 
-/// Calls in a row, each with a seat and a location, what it tells, and the cell there afterwards.
+/// Calls in a row, each with a seat and a location, its answer, and the cell there afterwards.
 const STEPS: &[(u32, u32, Step, Told, Option<State>)] = &[
     // Seat 1 reads what seat 0 wrote, and comes too late to write.
     (0, 0, Born(10), Told::At(0), Some((10, 0, None, true))),
@@ -114,7 +114,7 @@ const STEPS: &[(u32, u32, Step, Told, Option<State>)] = &[
     (0, 3, Read, Told::Unmet, None),
 ];
 
-/// Whether each cell's number is far from the last one.
+/// Returns whether each cell's number is far from the last one.
 fn may_grow(memory: &Memory<i64>) -> bool
     ensures { IsTrue result → All CanGrow memory.now.cells }
 {
@@ -127,7 +127,7 @@ fn may_grow(memory: &Memory<i64>) -> bool
     true
 }
 
-/// A new cell that no seat owns.
+/// Makes a new cell that no seat owns.
 fn born(memory: &mut Memory<i64>, value: i64) -> Result<Told, NoMemory> {
     if memory.cells().len() == u32::MAX {
         return Ok(Told::Unmet);
@@ -136,7 +136,7 @@ fn born(memory: &mut Memory<i64>, value: i64) -> Result<Told, NoMemory> {
     Ok(Told::At(l.0))
 }
 
-/// A new cell of a seat.
+/// Makes a new cell of a seat.
 fn allocate(memory: &mut Memory<i64>, seat: u32, value: i64, input: i64) -> Result<Told, NoMemory>
     requires { seat < length memory.old.rows }
 {
@@ -147,7 +147,7 @@ fn allocate(memory: &mut Memory<i64>, seat: u32, value: i64, input: i64) -> Resu
     Ok(Told::At(l.0))
 }
 
-/// A write by a seat.
+/// Makes a write by a seat.
 fn write(memory: &mut Memory<i64>, call: Call, n: i64) -> Result<Told, NoMemory>
     requires seat { call.seat < length memory.old.rows }
     requires location { call.l.0 < length memory.old.cells }
@@ -162,7 +162,7 @@ fn write(memory: &mut Memory<i64>, call: Call, n: i64) -> Result<Told, NoMemory>
     }
 }
 
-/// The committed value of a location.
+/// Returns the committed value of a location.
 fn peek(memory: &Memory<i64>, l: Loc) -> Result<Told, NoMemory> {
     if memory.committed(l).is_none() {
         return Ok(Told::NotLive);
@@ -171,7 +171,7 @@ fn peek(memory: &Memory<i64>, l: Loc) -> Result<Told, NoMemory> {
     Ok(Told::Value(value))
 }
 
-/// A write of unprotected code, where no seat owns the cell.
+/// Makes a write of unprotected code, if no seat owns the cell.
 fn put(memory: &mut Memory<i64>, l: Loc, value: i64) -> Told
     requires location { l.0 < length memory.old.cells }
     requires can_grow { ForSome (slice_get memory.old.cells l.0) CanGrow }
@@ -182,7 +182,7 @@ fn put(memory: &mut Memory<i64>, l: Loc, value: i64) -> Told
     Told::Value(memory.put(l, value))
 }
 
-/// Whether there is a cell at the location, and its number is far from the last one.
+/// Returns whether there is a cell at the location, and its number is far from the last one.
 fn can_grow(cells: &Store<i64>, l: Loc) -> bool
     ensures location { IsTrue result → l.0 < length cells.now }
     ensures can_grow { IsTrue result → ForSome (slice_get cells.now l.0) CanGrow }
@@ -190,7 +190,7 @@ fn can_grow(cells: &Store<i64>, l: Loc) -> bool
     l.0 < cells.len() && cells.cell(l).number < 1 << 62
 }
 
-/// A call at a location, where what it needs holds.
+/// Makes a call at a location, if its requirements hold.
 fn make_at(memory: &mut Memory<i64>, call: Call) -> Result<Told, NoMemory>
     requires { call.seat < length memory.old.rows }
 {
@@ -205,7 +205,7 @@ fn make_at(memory: &mut Memory<i64>, call: Call) -> Result<Told, NoMemory>
     }
 }
 
-/// A call of a seat that is there.
+/// Makes a call of a seat that is there.
 fn make_by(global: Global, memory: &mut Memory<i64>, call: Call) -> Result<Told, NoMemory>
     requires { call.seat < length memory.old.rows }
 {
@@ -226,7 +226,7 @@ fn make_by(global: Global, memory: &mut Memory<i64>, call: Call) -> Result<Told,
     }
 }
 
-/// Makes the call, where what it needs holds.
+/// Makes the call, if its requirements hold.
 fn make(global: Global, memory: &mut Memory<i64>, call: Call) -> Result<Told, NoMemory> {
     if call.seat as usize >= memory.seats() {
         return Ok(Told::Unmet);
@@ -239,7 +239,7 @@ fn make(global: Global, memory: &mut Memory<i64>, call: Call) -> Result<Told, No
     }
 }
 
-/// The cell at a location, where there is one.
+/// Returns the cell at a location, if there is one.
 fn state(cells: &Store<i64>, l: Loc) -> Option<State> {
     if l.0 >= cells.len() {
         return None;
@@ -248,7 +248,7 @@ fn state(cells: &Store<i64>, l: Loc) -> Option<State> {
     Some((cell.value, cell.number, cell.owner, cell.live))
 }
 
-/// Makes the calls, and answers how many of them told and left what the table says.
+/// Makes the calls, and returns how many of them answered and left what the table says.
 fn as_told(global: Global, memory: &mut Memory<i64>) -> Result<usize, NoMemory> {
     for (count, &(seat, l, step, told, after)) in STEPS.iter().enumerate() {
         let l = Loc(l);

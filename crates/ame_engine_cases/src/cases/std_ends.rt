@@ -30,7 +30,7 @@ const KINDS: &[ErrorKind] = &[
     ErrorKind::Other,
 ];
 
-/// What the first two reads of two bytes answer, and what the buffer then holds.
+/// Returns what the first two reads of two bytes answer, and what the buffer then holds.
 fn read_twice<R: Read + Drop>(
     reader: R,
 ) -> (Result<usize, Failed>, Result<usize, Failed>, [u8; 2]) {

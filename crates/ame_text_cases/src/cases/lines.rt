@@ -13,7 +13,7 @@ const JOURNAL: &[u8] = b"ran 0 0 2\nran 0 1 1\nfree 0 0 2\nran 0 0 2\n";
 
 const LINES: &[&[i64]] = &[&[], &[2], &[3], &[1]];
 
-/// The lines of each entry of a journal of the program.
+/// Returns the lines of each entry of a journal of the program.
 fn told(alloc: Global, journal: &[u8]) -> Result<Option<Vec<Vec<i64>>>, Fail> {
     if journal.len() > 10_000 {
         return Err("too long".into());

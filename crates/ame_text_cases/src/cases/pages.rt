@@ -12,7 +12,7 @@ use ame_why::{explain_bytes, explain_tokens, explain_types};
 use std::alloc::Global;
 use std::test::Fail;
 
-/// What is told of a text; nothing where the types accept it.
+/// Explains what the types refuse in a text; returns nothing if they accept it.
 pub(crate) fn told(alloc: Global, text: &[u8]) -> Result<Vec<u8>, Fail> {
     if text.len() > 1_048_576 {
         return Err("too long".into());
@@ -24,7 +24,7 @@ pub(crate) fn told(alloc: Global, text: &[u8]) -> Result<Vec<u8>, Fail> {
     Ok(page?)
 }
 
-/// What is told of a text by its tokens.
+/// Explains a text by its tokens.
 fn told_of_tokens(alloc: Global, text: &[u8], tokens: &[Token]) -> Result<Vec<u8>, NoMemory>
     requires of_text { tokens_of text.now ≡ Ok tokens.now }
     requires small { length text.now ≤ max_text }
@@ -35,72 +35,72 @@ fn told_of_tokens(alloc: Global, text: &[u8], tokens: &[Token]) -> Result<Vec<u8
     }
 }
 
-/// What is told of a text by its program.
+/// Explains a text by its program.
 fn told_of_program(alloc: Global, text: &[u8], program: Program) -> Result<Vec<u8>, NoMemory> {
     match check(alloc, program, 2) {
         Ok(_) => Ok(Vec::new(alloc)),
         Err(TypesFail::Fault(fault)) => explain_types(alloc, text, &fault),
-        Err(TypesFail::NoMemory) => Err(NoMemory),
+        Err(TypesFail::TooLarge | TypesFail::NoMemory) => Err(NoMemory),
     }
 }
 
-/// Texts, and what is told of them.
+/// Texts, and their explanations.
 const TOLD: &[(&[u8], &[u8])] = &[
     (
         b"(let x 1\n\t(print 7up))",
-        b"line 2, column 10:\n    \t(print 7up))\n    \t        ^\nno letter may stand directly behind a number: write a space between\n",
+        b"line 2, column 10:\n    \t(print 7up))\n    \t        ^\nletter directly after a number: put a space between them\n",
     ),
     (
         b"(print 99999999999999999999)",
-        b"line 1, column 8:\n    (print 99999999999999999999)\n           ^\nthis number has more than 64 bits: the least is -9223372036854775808, the greatest 9223372036854775807\n",
+        b"line 1, column 8:\n    (print 99999999999999999999)\n           ^\nnumber out of range: integers go from -9223372036854775808 to 9223372036854775807\n",
     ),
     (
         b"(do unit\n (print 1",
-        b"line 2, column 10:\n     (print 1\n             ^\nexpected `)`, found the end of the text\nthe parenthesis that is to be closed:\nline 2, column 2:\n     (print 1\n     ^\n",
+        b"line 2, column 10:\n     (print 1\n             ^\nexpected `)`, found the end of the text\nopened here:\nline 2, column 2:\n     (print 1\n     ^\n",
     ),
     (
         b"(print x)",
-        b"line 1, column 8:\n    (print x)\n           ^\nnothing around this place binds the name `x`\n",
+        b"line 1, column 8:\n    (print x)\n           ^\nunbound name `x`\n",
     ),
     (
         b"(print true)",
-        b"line 1, column 8:\n    (print true)\n           ^\npart 1 of `print` has another type than the form wants\nfound: Bool\nwanted: Int\n",
+        b"line 1, column 8:\n    (print true)\n           ^\nargument 1 of `print` has the wrong type\nfound: Bool\nexpected: Int\n",
     ),
     (
         b"(unprotected (print (call 9 1)))",
-        b"line 1, column 21:\n    (unprotected (print (call 9 1)))\n                        ^\nthere is no device of this number\nfound: device 9\nwanted: a device below 2\n",
+        b"line 1, column 21:\n    (unprotected (print (call 9 1)))\n                        ^\nno device with this number\nfound: device 9\nexpected: a device below 2\n",
     ),
     (
         b"(let r (ref p 1) (unprotected (set r 2)))",
-        b"line 1, column 31:\n    (let r (ref p 1) (unprotected (set r 2)))\n                                  ^\nthis location is one of the other code: protected code reads and writes those of sort p, unprotected code those of sort u\nits name is bound here:\nline 1, column 6:\n    (let r (ref p 1) (unprotected (set r 2)))\n         ^\nfound: sort p\nwanted: effect u\n",
+        b"line 1, column 31:\n    (let r (ref p 1) (unprotected (set r 2)))\n                                  ^\nwrong sort: protected code may only access locations of sort `p`, unprotected code only those of sort `u`\nbound here:\nline 1, column 6:\n    (let r (ref p 1) (unprotected (set r 2)))\n         ^\nfound: sort p\nexpected: effect u\n",
     ),
     (
         b"(let x 1 (let x (set x 2) unit))",
-        b"line 1, column 22:\n    (let x 1 (let x (set x 2) unit))\n                         ^\nwhat is read or written is no reference\nits name is bound here:\nline 1, column 6:\n    (let x 1 (let x (set x 2) unit))\n         ^\nfound: Int\n",
+        b"line 1, column 22:\n    (let x 1 (let x (set x 2) unit))\n                         ^\nnot a reference\nbound here:\nline 1, column 6:\n    (let x 1 (let x (set x 2) unit))\n         ^\nfound: Int\n",
     ),
     (
         b"(let x (ref u 1) (let x 1 (do (set x 2) unit)))",
-        b"line 1, column 36:\n    (let x (ref u 1) (let x 1 (do (set x 2) unit)))\n                                       ^\nwhat is read or written is no reference\nits name is bound here:\nline 1, column 23:\n    (let x (ref u 1) (let x 1 (do (set x 2) unit)))\n                          ^\nfound: Int\n",
+        b"line 1, column 36:\n    (let x (ref u 1) (let x 1 (do (set x 2) unit)))\n                                       ^\nnot a reference\nbound here:\nline 1, column 23:\n    (let x (ref u 1) (let x 1 (do (set x 2) unit)))\n                          ^\nfound: Int\n",
     ),
     (
         b"(let f (fn u (x Int) (print x)) (app f 1))",
-        b"line 1, column 33:\n    (let f (fn u (x Int) (print x)) (app f 1))\n                                    ^\nthis call doesn't fit the code around it: protected code calls functions of effect p or a, unprotected code those of effect u or a, and `call` and `peek` are for unprotected code\nits name is bound here:\nline 1, column 6:\n    (let f (fn u (x Int) (print x)) (app f 1))\n         ^\nfound: effect u\nwanted: effect p\n",
+        b"line 1, column 33:\n    (let f (fn u (x Int) (print x)) (app f 1))\n                                    ^\nwrong effect: protected code calls functions of effect `p` or `a`, unprotected code those of `u` or `a`; `call` and `peek` are for unprotected code\nbound here:\nline 1, column 6:\n    (let f (fn u (x Int) (print x)) (app f 1))\n         ^\nfound: effect u\nexpected: effect p\n",
     ),
     (
         b"(app (fn p (r (Ref u Int)) (print (get r))) (ref u 1))",
-        b"line 1, column 35:\n    (app (fn p (r (Ref u Int)) (print (get r))) (ref u 1))\n                                      ^\nthis location is one of the other code: protected code reads and writes those of sort p, unprotected code those of sort u\nits name is bound here:\nline 1, column 13:\n    (app (fn p (r (Ref u Int)) (print (get r))) (ref ...\n                ^\nfound: sort u\nwanted: effect p\n",
+        b"line 1, column 35:\n    (app (fn p (r (Ref u Int)) (print (get r))) (ref u 1))\n                                      ^\nwrong sort: protected code may only access locations of sort `p`, unprotected code only those of sort `u`\nbound here:\nline 1, column 13:\n    (app (fn p (r (Ref u Int)) (print (get r))) (ref ...\n                ^\nfound: sort u\nexpected: effect p\n",
     ),
     (
         b"(app (rec p r (r (Ref u Int)) Int (get r)) (ref u 1))",
-        b"line 1, column 35:\n    (app (rec p r (r (Ref u Int)) Int (get r)) (ref u 1))\n                                      ^\nthis location is one of the other code: protected code reads and writes those of sort p, unprotected code those of sort u\nits name is bound here:\nline 1, column 16:\n    (app (rec p r (r (Ref u Int)) Int (get r)) (ref u 1))\n                   ^\nfound: sort u\nwanted: effect p\n",
+        b"line 1, column 35:\n    (app (rec p r (r (Ref u Int)) Int (get r)) (ref u 1))\n                                      ^\nwrong sort: protected code may only access locations of sort `p`, unprotected code only those of sort `u`\nbound here:\nline 1, column 16:\n    (app (rec p r (r (Ref u Int)) Int (get r)) (ref u 1))\n                   ^\nfound: sort u\nexpected: effect p\n",
     ),
     (
         b"(app (rec p f (x Int) Unit (unprotected (app f x))) 1)",
-        b"line 1, column 41:\n    (app (rec p f (x Int) Unit (unprotected (app f x))) 1)\n                                            ^\nthis call doesn't fit the code around it: protected code calls functions of effect p or a, unprotected code those of effect u or a, and `call` and `peek` are for unprotected code\nits name is bound here:\nline 1, column 13:\n    (app (rec p f (x Int) Unit (unprotected (app f x)...\n                ^\nfound: effect p\nwanted: effect u\n",
+        b"line 1, column 41:\n    (app (rec p f (x Int) Unit (unprotected (app f x))) 1)\n                                            ^\nwrong effect: protected code calls functions of effect `p` or `a`, unprotected code those of `u` or `a`; `call` and `peek` are for unprotected code\nbound here:\nline 1, column 13:\n    (app (rec p f (x Int) Unit (unprotected (app f x)...\n                ^\nfound: effect p\nexpected: effect u\n",
     ),
     (
         b"(set 1 2)",
-        b"line 1, column 6:\n    (set 1 2)\n         ^\nwhat is read or written is no reference\nfound: Int\n",
+        b"line 1, column 6:\n    (set 1 2)\n         ^\nnot a reference\nfound: Int\n",
     ),
 ];
 

@@ -6,13 +6,13 @@ use ame_term::{Loc, Name, Term, Value};
 use std::alloc::Global;
 use std::test::Fail;
 
-/// The canonical text of a program's text.
+/// Returns the canonical text of a program's text.
 fn reprinted(alloc: Global, text: &[u8]) -> Result<Vec<u8>, Fail> {
     let program = read(alloc, text)?;
     Ok(print_program(alloc, &program)?)
 }
 
-/// Whether this is the canonical text of a program's text.
+/// Returns whether this is the canonical text of a program's text.
 fn is_reprinted_as(alloc: Global, text: &[u8], canonical: &[u8]) -> Result<bool, Fail> {
     Ok(reprinted(alloc, text)?.as_slice() == canonical)
 }

@@ -8,7 +8,7 @@ const TEXT: &[u8] = b"(let b 1 (let a b (do yield (let b a (print b)))))";
 /// The places of the terms of the text.
 const PLACES: &[u32] = &[0, 7, 9, 16, 18, 22, 22, 28, 35, 37, 44];
 
-/// Whether the names are `b` and `a`.
+/// Returns whether the names are `b` and `a`.
 fn are_b_and_a(names: &[Vec<u8>]) -> bool {
     names.len() == 2
         && names[0].as_slice() == b"b".as_slice()

@@ -3,7 +3,7 @@
 use ame_journal::Journal;
 use ame_protocol::Tried;
 use ame_term::{Loc, TyNo};
-use ame_views::{Made, Starter, forms_of, table_of};
+use ame_views::{Created, Starter, forms_of, table_of};
 use ame_why::Position;
 use std::alloc::Global;
 use std::test::Fail;
@@ -11,10 +11,10 @@ use std::test::Fail;
 const JOURNAL: &[u8] =
     b"ran 0 0 5 0\nstuck 0 1 3\nran 0 2 3\nran 0 1 11\nran 31 12 0\nfree 0 12 2 1 2 = -6\nfree 0 12 1\nran 0 12 4\ncut 1 100000000 1234567\ntall 2 3 9\n";
 
-/// What the first entries print.
+/// The integers that the first entries print.
 const LINES: &[&[i64]] = &[&[], &[], &[], &[2], &[], &[-1, 0]];
 
-/// What started the first fragments: the form of the second isn't told.
+/// The starters of the first fragments: the form of the second isn't known.
 const STARTERS: &[Starter] = &[
     Starter {
         entry: 1,
@@ -33,7 +33,7 @@ const STARTERS: &[Starter] = &[
     },
 ];
 
-/// Two tries, of a fragment whose starter is told, and of one whose starter isn't.
+/// Two tries, of a fragment whose starter is known, and of one whose starter isn't.
 const TRIES: &[Tried] = &[
     Tried {
         number: 2,
@@ -47,19 +47,19 @@ const TRIES: &[Tried] = &[
     },
 ];
 
-const TABLE: &[u8] = b"entry  seat  fragment  started by      steps  what it did
-    1     0         0     -                5  ran, made 0
-                    2     1                3  was rolled back; so far it was valid behind entry 1
-    2     0         1     1 at 3:7         3  was taken back: a condition is false here
+const TABLE: &[u8] = b"entry  seat      task  started by      steps  what it did
+    1     0         0     -                5  ran, created 0
+                    2     1                3  rolled back; its reads were last valid after entry 1
+    2     0         1     1 at 3:7         3  rolled back: condition false
     3     0         2     1                3  ran
     4     0         1     1 at 3:7        11  ran, printed 2
-    5    31        12     -                0  ran, and left for unprotected code
-    6     0        12     -                2  ran unprotected code, made 1 2, was answered -6, printed -1 0
-    7     0        12     -                1  ran unprotected code, and came back
+    5    31        12     -                0  ran, and entered unprotected code
+    6     0        12     -                2  ran unprotected code, created 1 2, answer -6, printed -1 0
+    7     0        12     -                1  finished its unprotected code
     8     0        12     -                4  ran
-    9     1 100000000     -           1234567  was cut off, and taken back
-   10     2         3     3 at 104:17      9  was taken back: a value would be too high
-                   12     -               40  was rolled back; so far it was valid behind entry 10
+    9     1 100000000     -           1234567  rolled back: cut off
+   10     2         3     3 at 104:17      9  rolled back: value nested too deeply
+                   12     -               40  rolled back; its reads were last valid after entry 10
 ";
 
 /// Lines of numbers.
@@ -81,16 +81,16 @@ fn a_journal_is_shown_line_by_line(rt: HostRuntime) -> Result<(), Fail> {
 }
 
 /// Two locations, and a third one whose form isn't there.
-const MADE: &[Made] = &[
-    Made {
+const MADE: &[Created] = &[
+    Created {
         location: Loc(0),
         form: TyNo(0),
     },
-    Made {
+    Created {
         location: Loc(12),
         form: TyNo(1),
     },
-    Made {
+    Created {
         location: Loc(13),
         form: TyNo(2),
     },

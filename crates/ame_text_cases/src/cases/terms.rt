@@ -1,4 +1,4 @@
-//! What is put in for a name, and the redex of each form, by texts.
+//! Substitution for a name, and the redex of each form, by texts.
 
 use crate::cases::texts::read;
 use ame_print::print_term;
@@ -26,7 +26,7 @@ const PUT_IN: &[(&[u8], &[u8])] = &[
     ),
 ];
 
-/// The body of a text that binds its first name, with three put in for that name.
+/// Returns the body of a text that binds its first name, with three put in for that name.
 fn body_with_three(alloc: Global, text: &[u8]) -> Result<Vec<u8>, Fail> {
     let program = read(alloc, text)?;
     let Term::Let(_, _, body) = &program.term else {
@@ -82,7 +82,7 @@ const REDEXES: &[(&[u8], &[u8], &[u8])] = &[
     (b"(fn p (x Int) (+ 1 1))", b"(fn p (x Int) (+ 1 1))", b"2"),
 ];
 
-/// The redex of a text.
+/// Returns the redex of a text.
 fn redex_of(alloc: Global, text: &[u8]) -> Result<Vec<u8>, Fail> {
     let program = read(alloc, text)?;
     match split(&program.term) {
@@ -91,7 +91,7 @@ fn redex_of(alloc: Global, text: &[u8]) -> Result<Vec<u8>, Fail> {
     }
 }
 
-/// A text with two in place of its redex.
+/// Returns a text with two in place of its redex.
 fn with_two(alloc: Global, text: &[u8]) -> Result<Vec<u8>, Fail> {
     let Program {
         names,

@@ -6,7 +6,7 @@ use ame_term::Program;
 use std::alloc::Global;
 use std::test::Fail;
 
-/// The program of a text. The types aren't asked.
+/// Reads the program of a text, without a check of types.
 pub(crate) fn read(alloc: Global, text: &[u8]) -> Result<Program, Fail> {
     if text.len() > 1_048_576 {
         return Err("too long".into());

@@ -5,7 +5,7 @@ use ame_lex::{Kind, Token, lex};
 use std::alloc::Global;
 use std::test::Fail;
 
-/// Texts with their tokens: where each begins, where it ends, and what it is.
+/// Texts with their tokens: the beginning and the end of each, and what it is.
 const TOKENS: &[(&[u8], &[(u32, u32, Kind)])] = &[
     (
         b"(do (async (print 2)) (print 1))",
@@ -53,7 +53,7 @@ const TOKENS: &[(&[u8], &[(u32, u32, Kind)])] = &[
     (b"(;\n)", &[(0, 1, Open), (3, 4, Close)]),
 ];
 
-/// The tokens of a text.
+/// Returns the tokens of a text.
 fn tokens_of(alloc: Global, text: &[u8]) -> Result<Vec<Token>, Fail> {
     if text.len() > 1_048_576 {
         return Err("too long".into());
@@ -61,7 +61,7 @@ fn tokens_of(alloc: Global, text: &[u8]) -> Result<Vec<Token>, Fail> {
     Ok(lex(alloc, text)?)
 }
 
-/// Whether these are the tokens that are told.
+/// Returns whether these are the tokens that are expected.
 fn are_told(tokens: &[Token], told: &[(u32, u32, Kind)]) -> bool {
     if tokens.len() != told.len() {
         return false;

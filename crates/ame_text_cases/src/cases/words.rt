@@ -189,7 +189,7 @@ const SPELLED: &[(&str, Command)] = &[
     ("check", Command::Check),
 ];
 
-/// What is read from the words of a line.
+/// Reads the words of a line.
 fn read(alloc: Global, line: &str) -> Result<Result<Command, CliFail>, Fail> {
     let mut words = Vec::new(alloc);
     for word in line.split(' ') {

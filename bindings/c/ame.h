@@ -1,4 +1,4 @@
-/* The judge of ame's certificates, as a static library (libame_c.a, made by `rt lib` in crates/ame_c).
+/* The judge of ame's certificates, as a library (libame.a and libame.so, which bindings/build makes).
  *
  * Duties of a caller, which nothing checks:
  *   - No pointer is null, also where its length is 0. What is written overlaps nothing else that is passed.

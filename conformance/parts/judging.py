@@ -1,7 +1,7 @@
 """Judges a recording: goes through the strong semantics by its entries, and compares what it claims besides."""
 import functools
 
-from . import explain, lines, steps, strong, values
+from . import explain, library, lines, steps, strong, values
 from .answers import Answer, Failure, Reason, Sign, Verdict
 from .names import Names
 from .places import Places
@@ -223,7 +223,8 @@ class Settings:
 
 
 def judge(source, settings):
-    """Returns the answer of the next recording of a source and what was judged of it, and None twice at the end."""
+    """Returns the answer of the next recording of a source and what was judged of it, and None twice at the end. The proved judge, if its library
+    is built, judges the certificate of a valid recording too; raises library.Disagreement if it finds it otherwise."""
     begin, judging = source.number + 1, None
     answer = Answer(Verdict.VALID, source.name, begin)
     try:
@@ -232,6 +233,7 @@ def judge(source, settings):
             return None, None
         judging = Judging(program_of(text, begin), text, settings)
         judge_lines(source, judging)
+        library.check(judging.state)
     except lines.Bad as fault:
         fail(answer, Verdict.BAD, Reason(Sign.TEXT, fault.line, fault.column, fault.problem, [f"found: {fault.found}", f"expected: {fault.expected}"]))
         source.skip()

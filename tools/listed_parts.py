@@ -82,7 +82,7 @@ def usage_of_why(known: Commands) -> List[str]:
     return here_document([
         "$self [VIEW] [FILE] [COMMAND ..]   runs the program in FILE as ame does, and says why it ends so",
         "", "Commands and their options are those of ${self%\"$name\"}ame. They come after FILE: $self --trace FILE run --workers 4",
-        "", "Views, one of which may stand anywhere, and takes the place of the lines:", *rows(views),
+        "", "One view may stand anywhere. It replaces the printed lines:", *rows(views),
         "", "Others:", *rows(word_rows(known, "why", ("explain", "same", "then", "help", "version")))])
 
 

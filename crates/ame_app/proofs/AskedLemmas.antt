@@ -16,7 +16,7 @@ use Rattle.ame_app.specs.Causes.RefusalCause.{by_words, by_source, by_length, by
 use Rattle.ame_app.specs.Jobs.{words_told, source_told, IsUntaken}
 use Rattle.ame_app.proofs.TurnedLemmas.{SpellOne, input-left}
 
--- what is so of an error
+-- an error with one property has a weaker one
 pub err-weaker : {T E : Type 0} (r : Result T E) (P Q : E → Type 0) → ((e : E) → P e → Q e) → IsErrAnd r P → IfErr r Q
 err-weaker (Ok x) P Q go h = tt
 err-weaker (Err e) P Q go h = go e h
@@ -25,7 +25,7 @@ pub err-so : {T E : Type 0} (r : Result T E) (P Q : E → Type 0) → ((e : E) �
 err-so (Ok x) P Q go h = tt
 err-so (Err e) P Q go h = go e h
 
--- by the words
+-- words that give no command are refused, with the status of their failure
 pub words-refused : (words : List (List ℕ)) (source : Given) (devices : ℕ) (text : Text) → text ≡ [] → (fail : CliFail) (status : Status) → status ≡ words_told fail
     → (fail ≡ CliFail.Usage → SpellsNothing words) → RefusalCause (call_of words source source devices) text [] Own.Nothing status
 words-refused words source devices text none CliFail.Usage status e nothing =
@@ -34,13 +34,13 @@ words-refused words source devices text none CliFail.NoMemory status e nothing =
     subst (RefusalCause (call_of words source source devices) text [] Own.Nothing) (sym e)
     (by_memory (inl none) (record { faults = refl; untouched = λ command spells still. refl }))
 
--- so no command is known
+-- without a command, the report names none
 pub words-named : (words : List (List ℕ)) (source : Given) (devices : ℕ) (fail : CliFail) (status : Status) → status ≡ words_told fail
     → (fail ≡ CliFail.Usage → SpellsNothing words) → IsNamed (call_of words source source devices) None status
 words-named words source devices CliFail.Usage status e nothing = inl (nothing refl)
 words-named words source devices CliFail.NoMemory status e nothing = inr e
 
--- by the source
+-- a source that fails is refused
 module _ (words : List (List ℕ)) (source after : Given) (devices : ℕ) (command : Command)
     (spelled : SpellsCommand words command) (reads : reads_source command ≡ true) where
   reader : IsReader (call_of words source after devices)
@@ -58,7 +58,7 @@ module _ (words : List (List ℕ)) (source after : Given) (devices : ℕ) (comma
         untouched = λ other spells still. absurd (let same = ap reads_source (one words command other spelled spells) in cc);
       }))
 
--- by what the source has
+-- input that the command doesn't take is refused
 pub untaken-refused : (one : SpellOne) (call : Call) (command : Command) (bytes : List ℕ) (status : Status) → SpellsCommand call.words command
     → IsInput (reads_source command) call.source call.source_after bytes → length bytes ≤ whole_limit → IsUntaken command bytes status
     → RefusalCause call [] [] Own.Nothing status

@@ -1,4 +1,4 @@
--- What is told of a certificate.
+-- Statuses of a certificate.
 use Rattle.std.proofs.Common.{◌≡◌, ◌≢◌, ◌⊎◌, inl, inr, ℕ, ◌+◌, List, take, drop, sym, ap, ◌∙◌, subst}
 use Rattle.ame_lex.specs.Bytes.{Text}
 use Rattle.ame_term.specs.Tree.{Tree}
@@ -21,7 +21,7 @@ certificate-one bytes front other text also one two =
     text_of-same one.journal.entries two.journal.entries lines.spellable two.lines_are.spellable (sym lines.spelled ∙ two.lines_are.spelled) in
     (one.text_is ∙ ap (λ (n : ℕ). drop n bytes) same.1 ∙ sym two.text_is, ap entries_before one.front_is ∙ entries ∙ ap entries_before (sym two.front_is))
 
--- bytes that are a certificate aren't told to be none
+-- bytes that are a certificate don't have the status of bytes that are none
 pub certificate-none : (bytes : List ℕ) (front : Front) (text : Text) (told : Status) → TakesCertificate bytes front text → HasNoCertificate bytes told → ⊥
 certificate-none bytes front text told takes none = elim none.why [
   | inl missing ↦ missing.none takes.before takes.split.line
@@ -34,7 +34,7 @@ certificate-none bytes front text told takes none = elim none.why [
         let lines = subst (λ (n : ℕ). IsText (take n bytes) takes.journal.entries) same.0 takes.lines_are in
         not_bad takes.journal.entries bad.bad.before bad.bad.left lines.spellable bad.bad.reads bad.bad.follows bad.bad.bad (sym lines.spelled ∙ bad.bad.split)
 
--- and of those that are none one line is told
+-- bytes that are no certificate have one line
 line-one : (bytes : List ℕ) (m n : ℕ) → HasNoProgram bytes m ⊎ HasBadEntry bytes m → HasNoProgram bytes n ⊎ HasBadEntry bytes n → m ≡ n
 line-one bytes m n (inl one) (inl two) = one.count ∙ sym two.count
 line-one bytes m n (inl one) (inr two) = absurd (one.none two.before two.split.line)
@@ -49,11 +49,11 @@ line-one bytes m n (inr one) (inr two) =
 pub bad-one : (bytes : List ℕ) (told other : Status) → HasNoCertificate bytes told → HasNoCertificate bytes other → told ≡ other
 bad-one bytes told other one two = one.told_is ∙ ap Status.BadJournal (line-one bytes one.line two.line one.why two.why) ∙ sym two.told_is
 
--- and not as a fault of the sink
+-- the status of bytes that are no certificate is no fault of the sink
 pub bad-other : (bytes : List ℕ) (told : Status) → HasNoCertificate bytes told → told ≢ Status.WriteFault
 bad-other bytes told none = λ e. absurd (let clash : Status.BadJournal none.line ≡ Status.WriteFault = sym none.told_is ∙ e in cc)
 
--- of a journal one status is told
+-- a journal has one status
 pub journal-one : (program : Tree) (entries : List Entry) (ahead more : List ℕ) (own also : Own) (told other : Status)
     → TellsOfJournal program entries ahead own told → TellsOfJournal program entries more also other → told ≡ other
 journal-one program entries ahead more own also (Status.Valid n) (Status.Valid m) one two = ap Status.Valid (one.count ∙ sym two.count)
@@ -73,7 +73,7 @@ journal-one program entries ahead more own also (Status.LongJournal n) (Status.L
 journal-one program entries ahead more own also (Status.LongJournal n) other one two = absurd two
 journal-one program entries ahead more own also told other one two = absurd one
 
--- and no fault of the sink
+-- the status of a journal is no fault of the sink
 pub journal-other : (program : Tree) (entries : List Entry) (ahead : List ℕ) (own : Own) (told : Status) → TellsOfJournal program entries ahead own told
     → told ≢ Status.WriteFault
 journal-other program entries ahead own Status.WriteFault tells = absurd tells

@@ -19,7 +19,7 @@ reads-faulty : (text : Text) (fault : LexFault) → tokens_of text ≡ Err fault
 unfolding reading
 reads-faulty text fault e = ap (reading_by text) e
 
--- by its bytes
+-- a text with an error in its bytes has the status of that error
 pub bytes-faulty : (text : Text) (devices : ℕ) (fault : LexFault) (status : Status) → status ≡ bytes_told fault
     → AnswersTokens (λ (v : Vec Token Global). v.items) (Err fault) (tokens_of text) → IsTextStatus text devices status
 bytes-faulty text devices LexFault.NoMemory status e none = subst (IsTextStatus text devices) (sym e) tt
@@ -28,7 +28,7 @@ bytes-faulty text devices (LexFault.BadByte place) status e none =
 bytes-faulty text devices (LexFault.LongNumber place) status e none =
     subst (IsTextStatus text devices) (sym e) (reads-faulty text (LexFault.LongNumber place) none)
 
--- so a call is refused that asked for it
+-- a call that asked for such a text is refused
 pub text-refused : (one : SpellOne) (call : Call) (command : Command) (front : Front) (text : Text) → Asks call command front text
     → (status : Status) → IsTextStatus text call.devices status → RefusalCause call text [] Own.Nothing status
 text-refused one call command front text asked (Status.Text fault) none =
@@ -38,12 +38,12 @@ text-refused one call command front text asked (Status.Types fault) ill =
 text-refused one call command front text asked Status.NoMemory free = by_memory (inr (command, front, asked)) (asked-left one call command front text asked)
 text-refused one call command front text asked status bad = absurd bad
 
--- what is so of a value that may be there
+-- a value that may be there, with one property, has a weaker one
 pub some-weaker : {T : Type 0} (o : Option T) (P Q : T → Type 0) → ((x : T) → P x → Q x) → IfSome o P → IfSome o Q
 some-weaker None P Q go h = tt
 some-weaker (Some x) P Q go h = go x h
 
--- what is so of anything
+-- a property of all values holds of the one in a result
 pub ok-any : {T E : Type 0} (r : Result T E) (P : T → Type 0) → ((x : T) → P x) → IfOk r P
 ok-any (Ok x) P go = go x
 ok-any (Err e) P go = tt

@@ -1,4 +1,4 @@
--- What the status of a call must be.
+-- The status that a call must have.
 use Rattle.std.proofs.Common.{◌≡◌, ◌≢◌, ◌⊎◌, inl, inr, ℕ, ◌<◌, ◌≤◌, List, ◌++◌, length, Option, Some, None, Result, Ok, Err, IfSome, refl, sym, ap, ◌∙◌, subst, arith}
 use Rattle.ame_io.specs.Counts.{HasNotRisen}
 use Rattle.ame_io.specs.Reads.{whole_limit}
@@ -92,7 +92,7 @@ module _ (call : Call) (code : FlatCode) (end : End Val) (before after : Ends) (
   failed-told (Command.Resume with) spelled d = fault-told d
   failed-told (Command.Weak seed turns) spelled d = weak-fault-told seed turns spelled d end.stop refl
 
--- What an input must give
+-- The status of an input
 
 data Due (command : Command) (bytes : List ℕ) (devices : ℕ) (status : Status) : Type 0 where
   is_long : status ≡ Status.TooLong → whole_limit < length bytes → Due command bytes devices status
@@ -111,7 +111,7 @@ data Due (command : Command) (bytes : List ℕ) (devices : ℕ) (status : Status
 err-ok : {A E : Type 0} (r : Result A E) (x : A) (e : E) → r ≡ Ok x → r ≡ Err e → ⊥
 err-ok r x e is bad = let clash : Ok x ≡ Err e = sym is ∙ bad in cc
 
--- a text that is no program is read as none
+-- a text that is no program isn't read as one
 never-reads : (text : Text) (fault : TextFault) (source : Source) → IsNoProgram text fault → reading text ≡ Ok source → ⊥
 never-reads text (TextFault.Lexical LexFault.NoMemory) source none reads = none
 never-reads text (TextFault.Syntactic ParseFault.NoMemory) source none reads = none
@@ -131,7 +131,7 @@ read-same text also devices same one other =
     let both : Ok one.source ≡ Ok other.source = sym one.reads ∙ ap reading same ∙ other.reads in
     cc
 
--- memory may be lacking whether or not there is a run
+-- memory may run out with a run or without one
 memory-ends : (options : Option Options) → TellsEndWith options Status.NoMemory
 memory-ends (Some options) = tt
 memory-ends None = refl
@@ -188,7 +188,7 @@ module _ (command : Command) (bytes : List ℕ) (devices : ℕ) (status : Status
     due-refused bad (lacks e) = subst (TellsRule text devices) (sym e) tt
 
     module _ (good : IsAcceptedText text devices) where
-      -- what is told of one program is told of the other
+      -- a status of one program is that of the other
       here : (f : Front) (t : Text) (again : TakesInput command bytes f t) (other : IsAcceptedText t devices) (ahead : List ℕ) (own : Own) (told : Status)
           → Settles command f other.source.tree ahead own told → Settles command front good.source.tree ahead own told
       here f t again other ahead own told settles =
@@ -227,7 +227,7 @@ module _ (command : Command) (bytes : List ℕ) (devices : ℕ) (status : Status
       due-settled ahead own told settles (is_run f t other run never again most) = absurd (never ahead own told (there f t again other ahead own told settles))
       due-settled ahead own told settles (lacks e) = inr e
 
--- Where no run was begun
+-- Calls without a run
 
 asked-stays : (call : Call) (command : Command) (front : Front) (text : Text) → Asks call command front text → call.source_after.faults ≡ call.source.faults
 asked-stays call command front text asked =
@@ -271,7 +271,7 @@ module _ (one : SpellOne) (call : Call) (report : Text) where
       absurd (let stayed = asked-stays call s.command s.front report s.asked in omega (arith, stayed, rises))
   source-refusal ahead own told rises (by_memory text_is c) = absurd (let stayed = c.faults in omega (arith, stayed, rises))
 
--- Where a run was begun, or none
+-- Calls with a run, or without one
 
 module _ (call : Call) (before after : Ends) (n : NothingFailed call before after) where
   plain-told : (told : Status) (options : Options) (end : End Val) (r : Replayed) → RunCause told options end r before after → TellsEnd told
@@ -338,7 +338,7 @@ module _ (one : SpellOne) (call : Call) (before after : Ends) (n : NothingFailed
 
 -- Both
 
--- what is due is told
+-- the status is the one that is due
 module _ (one : SpellOne) (call : Call) (status : Status) (before after : Ends)
     (due : (n : NothingFailed call before after) (bytes : List ℕ) (given : IsGivenBytes call bytes) → Due given.command bytes call.devices status) where
   told-long : NothingFailed call before after → (bytes : List ℕ) → IsGivenBytes call bytes → whole_limit < length bytes → IsUnlessMemory Status.TooLong status

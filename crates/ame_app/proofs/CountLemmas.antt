@@ -46,7 +46,7 @@ same-first n m ns ms above over (inr c) (inr d) =
     let down : m < n = All-contains (λ (k : ℕ). m < k) ms n over d in
     absurd (omega (arith, up, down))
 
--- what is behind the first one of one list is behind that of the other
+-- a number after the first one of one list is after that of the other
 behind : (n m k : ℕ) (ns ms : List ℕ) → n ≡ m → All (λ i. n < i) ns → Contains ns k → (m ≡ k) ⊎ Contains ms k → Contains ms k
 behind n m k ns ms same above c (inr d) = d
 behind n m k ns ms same above c (inl e) =
@@ -82,7 +82,7 @@ rises-by [] h = tt
 rises-by (n ∷ ns) h = (all-above n ns h.0, rises-by ns h.1)
 
 module _ {X : Type 0} where
-  -- who is found is among the numbers
+  -- each number that is found is among the keys
   found-named : (es : List (ℕ × X)) (n : ℕ) → IsSome (at es n) → Contains (keys_of es) n
   found-named [] n some = absurd (let clash : false ≡ true = some in cc)
   found-named (e ∷ es) n some = by (is_at (nat_cmp n) e.0) refl some (λ later. found-named es n later)

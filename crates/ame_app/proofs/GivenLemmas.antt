@@ -23,7 +23,7 @@ whole-is (Some xs) None bytes text read e = absurd read.taken
 whole-is (Some xs) (Some ys) bytes text read e =
     sym (append-nil bytes) ∙ ap (λ (l : List ℕ). bytes ++ l) (sym read.at_end) ∙ sym read.taken ∙ some-same xs text e
 
--- what is taken from the front is no longer than all that is left
+-- the bytes taken from the start are at most as many as all that are left
 taken-within : (a b : Option (List ℕ)) (bytes text : List ℕ) → Consumes a b bytes → a ≡ Some text → length bytes ≤ length text
 taken-within None b bytes text taken e = absurd (cc)
 taken-within (Some xs) None bytes text taken e = absurd taken
@@ -51,7 +51,7 @@ module _ (one : SpellOne) (call : Call) (given : List ℕ) (is : IsGivenBytes ca
   given-as : (command : Command) → SpellsCommand call.words command → AreBytesOf (reads_source command) call.source given
   given-as command spelled = subst (λ (k : Command). AreBytesOf (reads_source k) call.source given) (sym (command-is command spelled)) is.given
 
-  -- what is taken as input is what is given
+  -- the bytes taken as input are the bytes given
   pub input-given : (command : Command) → SpellsCommand call.words command → (bytes : List ℕ)
       → IsInput (reads_source command) call.source call.source_after bytes → bytes ≡ given
   input-given command spelled bytes input =

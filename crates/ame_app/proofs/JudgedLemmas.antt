@@ -14,7 +14,7 @@ use Rattle.ame_check.proofs.JudgeLemmas.{undefined-all}
 below-or-far : (m n : ℕ) → (m < n) ⊎ (n ≤ m)
 below-or-far m n = grind arith
 
--- two numbers, neither of which is below the other, are the same
+-- two numbers are the same if neither is below the other
 pub one-number : (m n : ℕ) → (m < n → ⊥) → (n < m → ⊥) → m ≡ n
 one-number m n not_below not_above = elim (below-or-far m n) [
   | inl below ↦ absurd (not_below below)

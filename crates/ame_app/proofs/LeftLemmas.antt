@@ -35,7 +35,7 @@ use Rattle.ame_eval.specs.Values.{value_meant, made_alike, meant_alike}
 use Rattle.ame_eval.specs.declared.fragment.Fragment.{Fragment}
 use Rattle.ame_app.specs.Jobs.{fragments, are_alike, IsLeftOf, LeadsToLeft}
 
--- Types of locations are those that the cells tell
+-- Types of locations are those of their cells
 
 module _ (signature : Signature) (refs : List Typ) (listed : signature.refs ≡ Some refs) (cells : List (Cell Value)) (types : StoreTyping) (s : State)
     (typed : IsTyped signature types s) (stored : (l : ℕ) → at s.store l ≡ stored_in (cell_of cells l))
@@ -117,7 +117,7 @@ length-told : {X Y : Type 0} (f : X → Y) (xs : List X) → length (map f xs) �
 length-told f [] = refl
 length-told f (x ∷ xs) = ap suc (length-told f xs)
 
--- as many devices tell as there are
+-- as many devices show what they heard as there are
 pub told-count : {D : Type 0} (heard : D → Option (List Heard)) (faults : D → ℕ) (old new : List D) → length new ≡ length old
     → length (all_told heard faults new) ≡ length (all_told heard faults old)
 told-count heard faults old new same =

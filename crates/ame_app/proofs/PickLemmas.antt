@@ -1,4 +1,4 @@
--- What a run under a chooser tells of its picks.
+-- Picks of a run under a chooser.
 use Rattle.std.proofs.Common.{◌≡◌, ℕ, ◌-◌, ◌<◌, ◌≤◌, List, ◌++◌, map, take, drop, Result, Ok, Err, Option, Some, sym, ap, ◌∙◌, subst, arith}
 use Rattle.std.specs.Prelude.{All, OnErr}
 use Rattle.std.specs.Io.KnownBytes.{Appends}
@@ -31,7 +31,7 @@ signs_picked picks = signs (seats_of picks)
 pub signs-append : (xs ys : List Picked) → signs_picked (xs ++ ys) ≡ signs_picked xs ++ signs_picked ys
 signs-append xs ys = ap (map sign) (map-append (λ (p : Picked). p.seat) xs ys) ∙ map-append sign (seats_of xs) (seats_of ys)
 
--- what is so anyway is so of an error
+-- a claim that holds anyway holds of an error
 pub on-err : {T E : Type 0} (r : Result T E) (P : Type 0) → P → OnErr r P
 on-err (Ok x) P p = tt
 on-err (Err e) P p = p
@@ -42,7 +42,7 @@ on-err-then (Err e) P Q go h = go h
 
 module _ (picks : List Picked) (gone next : ℕ) (more : gone ≤ next) (a b c : Option (List ℕ))
     (before : Appends a b (signs_picked (take gone picks))) where
-  -- behind the signs of the first picks those of the next ones are written
+  -- the signs of the next picks are written after those of the first ones
   pub signs-more : Appends b c (signs_picked (take (next - gone) (drop gone picks))) → Appends a c (signs_picked (take next picks))
   signs-more now =
       subst (λ (l : List ℕ). Appends a c l)
@@ -50,7 +50,7 @@ module _ (picks : List Picked) (gone next : ℕ) (more : gone ≤ next) (a b c :
       ∙ ap signs_picked (sym (take-add gone (next - gone) picks) ∙ ap (λ (n : ℕ). take n picks) (omega (arith, more))))
       (Appends-trans a b c _ _ before now)
 
-  -- or a front of them
+  -- if the sink fails, a prefix of all signs is written
   pub signs-front : AppendsFront b c (signs_picked (take (next - gone) (drop gone picks))) → AppendsFront a c (signs_picked picks)
   signs-front now =
       let rest = drop (next - gone) (drop gone picks) in

@@ -1,4 +1,4 @@
--- What is told of a journal from which no run can go on.
+-- Statuses of a journal from which no run can go on.
 use Rattle.std.proofs.Common.{◌≡◌, ◌≢◌, ℕ, ◌+◌, ◌-◌, ℤ, Bool, true, false, not}
 use Rattle.std.proofs.Common.{List, [], ◌∷◌, ◌++◌, length, take, get_or, Some, Result, Ok, Err, IfOk, refl, sym, ap, ◌∙◌, subst, arith}
 use Rattle.std.specs.List.{slice_get}
@@ -36,7 +36,7 @@ use Rattle.ame_app.proofs.JudgedLemmas.{invalid-one, invalid-leads, long-one, lo
 
 -- The acts of a journal
 
--- they are no notes
+-- the acts of a journal are no notes
 pub acts-are : (entries : List Entry) → AreActs (without_notes entries)
 acts-are entries =
     All-weaker (λ (e : Entry). not (is_note e.kind) ≡ true) (λ (e : Entry). is_note e.kind ≡ false) (λ e. by (is_note e.kind)) (without_notes entries)
@@ -46,7 +46,7 @@ acts-are entries =
     by true e = sym e
     by false e = refl
 
--- they lead where the journal leads
+-- the acts of a journal lead to the state to which the journal leads
 pub acts-lead : (program : Tree) (entries : List Entry) (output : List ℤ) → LeadsTo program entries output
     → (led : Replayed) × (replay program (without_notes entries) ≡ Some led)
 acts-lead program entries output leads = (leads.led, notes-dropped (begun_at program) entries leads.led leads.replayed)
@@ -59,7 +59,7 @@ end-is entries entry last is =
     sym (get_or-append_seam entries entry [] last) ∙ ap (λ (k : ℕ). get_or (entries ++ entry ∷ []) k last) (sym place)
     ∙ get_or_from_slice_get (entries ++ entry ∷ []) (length (entries ++ entry ∷ []) - 1) last last is
 
--- where the entry that passes too high a form is no note, that is told
+-- if the entry that passes a form nested too deeply is no note, that is the status
 pub tells-tall : (program : Tree) (entries : List Entry) (place : ℕ) (last : Entry) → IsTallAt program entries place
     → slice_get (take place entries) (length (take place entries) - 1) ≡ Some last → is_note last.kind ≡ false
     → (ahead : List ℕ) (own : Own) (told : Status) → ahead ≡ [] → own ≡ Own.Nothing → told ≡ Status.TallJournal (length (without_notes (take place entries)))
@@ -76,13 +76,13 @@ tells-tall program entries place last tall is note ahead own told ahead_is own_i
       own_is = own_is;
     })
 
--- an engine goes on from a base, where none of its entries is far
+-- an engine goes on from a base none of whose entries is far
 pub near-where : {X : Type 0} (r : Result X ResumeFail) (base : List Entry) → ((n : ℕ) → IsFar base n → r ≡ Err (ResumeFail.Far n))
     → IfOk r (λ x. (n : ℕ) → IsFar base n → ⊥)
 near-where (Ok x) base far = λ n is. let clash : Ok x ≡ Err (ResumeFail.Far n) = far n is in cc
 near-where (Err e) base far = tt
 
--- it has its own limits and its own base
+-- an engine that goes on has its own limits and its own base
 pub own-resumed : (options : Options) (base : List Entry) (code : FlatCode) (engine : Core FlatCode Val Fragment) → IsEngineOn options base code engine
     → HasResumed fragments engine.limits engine.base engine
 own-resumed options base code engine on =
@@ -91,7 +91,7 @@ own-resumed options base code engine on =
     subst (λ (l : Limits). HasResumed fragments l engine.base engine) (sym same_limits)
     (subst (λ (es : List Entry). HasResumed fragments (limits_of options) es engine) (sym same_base) on.resumed)
 
--- an engine goes on from them
+-- an engine goes on from the acts of a journal
 pub goes-on : (options : Options) (front : Front) (code : FlatCode) (limits : Limits) (base : List Entry) (output : List ℤ)
     → (engine : Core FlatCode Val Fragment) → limits ≡ limits_of options → base ≡ without_notes (entries_before front)
     → LeadsTo (program_of code) (entries_before front) output → ((n : ℕ) → IsFar base n → ⊥)
@@ -114,10 +114,10 @@ goes-on options front code limits base output engine limits_is base_is leads nea
           (subst (λ (es : List Entry). HasResumed fragments limits es engine) (sym same_base) resumed);
     }
 
--- What is told
+-- Statuses
 
 module _ (program : Tree) (entries : List Entry) where
-  -- the first entry that passes too high a form is one
+  -- the first entry that passes a form nested too deeply is one
   high-one : (m n : ℕ) → IsTooHighAt program entries m → IsTooHighAt program entries n → m ≡ n
   high-one m n one two = one-number m n (λ below. two.first m below one.passes) (λ above. one.first n above two.passes)
 
@@ -125,7 +125,7 @@ module _ (program : Tree) (entries : List Entry) where
   tall-one ahead more own also m n one two =
       one.count ∙ ap (λ (k : ℕ). length (without_notes (take k entries))) (high-one one.place two.place one.tall.there two.tall.there) ∙ sym two.count
 
-  -- of a journal one status is told
+  -- a journal has one status
   pub base-one : (ahead more : List ℕ) (own also : Own) (told other : Status) → TellsOfBase program entries ahead own told
       → TellsOfBase program entries more also other → told ≡ other
   base-one ahead more own also (Status.Invalid n) (Status.Invalid m) one two =
@@ -153,12 +153,12 @@ module _ (program : Tree) (entries : List Entry) where
   base-one ahead more own also (Status.TallJournal n) other one two = absurd two
   base-one ahead more own also told other one two = absurd one
 
-  -- and no fault of the sink
+  -- the status of a journal is no fault of the sink
   pub base-other : (ahead : List ℕ) (own : Own) (told : Status) → TellsOfBase program entries ahead own told → told ≢ Status.WriteFault
   base-other ahead own Status.WriteFault tells = absurd tells
   base-other ahead own told tells = λ e. absurd (cc)
 
-  -- and nothing where a run goes on
+  -- a journal from which a run goes on has no status without a run
   pub base-unsettled : (base : List Entry) → BeginsFromActs program entries base → (ahead : List ℕ) (own : Own) (told : Status)
       → TellsOfBase program entries ahead own told → ⊥
   base-unsettled base begins ahead own (Status.Invalid n) tells = invalid-leads program entries n tells.why begins.output tells.invalid begins.leads

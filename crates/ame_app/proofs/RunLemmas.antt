@@ -1,4 +1,4 @@
--- What a run that is over tells of its call.
+-- The headline and the causes of a run that is over.
 use Rattle.std.proofs.Common.{◌≡◌, ◌≢◌, ℕ, List, [], ◌++◌, map, length, Option, Some, None, refl, sym, ap, ◌∙◌, subst, arith}
 use Rattle.std.proofs.lemmas.List.Elements.{All-nil}
 use Rattle.ame_io.specs.Counts.{HasRisen}
@@ -50,7 +50,7 @@ use Rattle.ame_app.proofs.CountLemmas.{certified-count}
 
 -- States that a journal leads to
 
--- they are orderly
+-- states that a journal leads to are orderly
 replayed-orderly : (program : Tree) (entries : List Entry) (r : Replayed) → replay program entries ≡ Some r → IsOrderly r.state
 replayed-orderly program entries r replays =
     let all = unfold-all (begun_at program) entries r replays in
@@ -59,7 +59,7 @@ replayed-orderly program entries r replays =
 -- Causes
 
 module _ (limits : Limits) (options : Options) (r : Replayed) (end : End Val) (before after : Ends) where
-  -- what tells the cause of a stop
+  -- the facts from which a stop has its cause
   record Causes (status : Status) : Type 0 where
     turns : limits.turns ≡ options.turns
     orderly : IsOrderly r.state
@@ -86,7 +86,7 @@ module _ (limits : Limits) (options : Options) (r : Replayed) (end : End Val) (b
     faults = (subst (λ (o : Option Stop). HaveFailed o before.told after.told) e c.failed).risen;
   }
 
--- a stop that is no fault of the sink is told otherwise
+-- a stop that is no fault of the sink doesn't have its status
 stop-told : (stop : Option Stop) (certificates : List Certificate) → stop ≢ Some Stop.WriteFault → status_at stop certificates ≢ Status.WriteFault
 stop-told (Some Stop.WriteFault) certificates other = absurd (other refl)
 stop-told stop certificates other = λ e. cc
@@ -102,13 +102,13 @@ record IsPlain (code : FlatCode) (command : Command) (end : End Val) (before aft
 
 -- The headline
 
--- what is written after the lines of a run that an engine made
+-- the bytes written after the lines of a run that an engine made
 speaks-engine : (left : Left) (extra : Extra) (ahead : List ℕ) (told : Status) (text : List ℕ) (status : Status) (a : Option (List ℕ)) (m : ℕ) (b : Option (List ℕ)) (n : ℕ)
     → extra_in left ≡ Some extra → SpeaksAfter left ahead told text status a m b n → SpeaksBehind (end_in left).stop told text status a m b n
 speaks-engine (Left.Engine end more) extra ahead told text status a m b n is speaks = speaks
 speaks-engine (Left.Weak weak) extra ahead told text status a m b n is speaks = absurd (cc)
 
--- what is reported of a run
+-- the report's view of a run
 abbrev pub run_with : FlatCode → Left → RunView
 run_with code left = record { code = code; left = left }
 
@@ -117,7 +117,7 @@ report_with status text code command left =
     record { status = status; text = text; command = Some command; run = Some (run_with code left); own = Own.Nothing }
 
 module _ (call : Call) (status : Status) (text : Text) (code : FlatCode) (front : Front) (before mid after : Ends) (kept : after.told ≡ mid.told) where
-  -- what is written after the lines
+  -- the bytes to be written after the lines
   abbrev more : Command → Left → List ℕ
   more command left = verdict_of (end_in left) ++ written_behind command left (status_of (end_in left))
 
@@ -293,7 +293,7 @@ module _ (call : Call) (status : Status) (text : Text) (code : FlatCode) (front 
       bounds = weak-bounds;
     }
 
-  -- what is written after the run of a command
+  -- the bytes written after the run of a command
   abbrev pub Spoken : Command → Left → List ℕ → Type 0
   Spoken command left ahead =
       SpeaksAfter left ahead (status_of (end_in left)) (more command left) status mid.written mid.write_faults after.written after.write_faults
@@ -306,7 +306,7 @@ module _ (call : Call) (status : Status) (text : Text) (code : FlatCode) (front 
       (weak-headline seed turns made.weak ahead job made.tells made.has_left made.ahead_is made.unwritten made.unfailed
       (subst (λ (l : Left). Spoken (Command.Weak seed turns) l ahead) made.left_is speaks))
 
-  -- a command whose run an engine makes, and which has something next to its end
+  -- a command whose run an engine makes, with something next to the engine's end
   engine-told : (command : Command) (left : Left) (extra : Extra) (ahead : List ℕ) → IsJobOf call text code command front
       → IsEngineRunMade command front code before left mid → extra_in left ≡ Some extra → IsPlain code command (end_in left) before after → Spoken command left ahead
       → Headline call (report_with status text code command left) (run_with code left) (end_in left) before after
@@ -334,7 +334,7 @@ module _ (call : Call) (status : Status) (text : Text) (code : FlatCode) (front 
       speaks
   headline (Command.Weak seed turns) left ahead job made speaks = weak-told seed turns left ahead job made speaks
 
--- what is told is told of the stop
+-- if the status is that of the end, so are the bytes written
 pub told-of : (left : Left) (ahead : List ℕ) (told : Status) (more : Status → List ℕ) (status : Status) (a : Option (List ℕ)) (m : ℕ) (b : Option (List ℕ)) (n : ℕ)
     → told ≡ status_of (end_in left) → SpeaksAfter left ahead told (more told) status a m b n
     → SpeaksAfter left ahead (status_of (end_in left)) (more (status_of (end_in left))) status a m b n

@@ -19,7 +19,7 @@ use Rattle.ame_app.specs.Causes.{RefusalCause, IsNamed, IsWithoutMemory}
 use Rattle.ame_app.specs.Causes.RefusalCause.{by_words, by_source, by_length, by_input, by_text, by_types, by_program, by_memory}
 use Rattle.ame_app.proofs.VerbLemmas.{declines-other, settles-other}
 
--- such a call is never told as a fault of the sink
+-- the status of such a call is no fault of the sink
 pub refusal-other : (call : Call) (text : Text) (ahead : List ℕ) (own : Own) (told : Status) → RefusalCause call text ahead own told → told ≢ Status.WriteFault
 refusal-other call text ahead own told (by_input other none d) = declines-other d.command d.bytes other d.declines
 refusal-other call text ahead own told (by_words none u) = λ e. absurd (cc)
@@ -43,7 +43,7 @@ input-untouched false source after bytes input e = input.1
 abbrev pub SpellOne : Type 0
 SpellOne = (words : List (List ℕ)) (command other : Command) → SpellsCommand words command → SpellsCommand words other → command ≡ other
 
--- memory may be lacking after the input was taken
+-- memory may run out after the input was taken
 module _ (one : SpellOne) (call : Call) where
   pub input-left : (command : Command) → SpellsCommand call.words command → (bytes : List ℕ)
       → IsInput (reads_source command) call.source call.source_after bytes → IsWithoutMemory call

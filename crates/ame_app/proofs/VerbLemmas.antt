@@ -1,4 +1,4 @@
--- What the tables of the verbs keep: laws with a case a verb.
+-- Laws of the tables of commands, with a case a command.
 use Rattle.std.proofs.Common.{◌≡◌, ◌≢◌, ℕ, List, sym, ◌∙◌, subst}
 use Rattle.ame_sim.proofs.TextLemmas.{scheduled-same}
 use Rattle.ame_lex.specs.Bytes.{Text}
@@ -26,7 +26,7 @@ takes-one Command.Check bytes front other text also one two = (certificate-one b
 takes-one (Command.Resume options) bytes front other text also one two = (certificate-one bytes front other text also one two).0
 takes-one (Command.Weak seed turns) bytes front other text also one two = one.1 ∙ sym two.1
 
--- bytes that it takes aren't declined
+-- bytes that a command takes aren't declined
 pub takes-none : (command : Command) (bytes : List ℕ) (front : Front) (text : Text) (told : Status)
     → TakesInput command bytes front text → Declines command bytes told → ⊥
 takes-none (Command.Run options) bytes front text told takes declines = declines
@@ -47,7 +47,7 @@ declines-one Command.Check bytes told other one two = bad-one bytes told other o
 declines-one (Command.Resume options) bytes told other one two = bad-one bytes told other one two
 declines-one (Command.Weak seed turns) bytes told other one two = absurd one
 
--- and not as a fault of the sink
+-- the status of declined bytes is no fault of the sink
 pub declines-other : (command : Command) (bytes : List ℕ) (told : Status) → Declines command bytes told → told ≢ Status.WriteFault
 declines-other (Command.Run options) bytes told declines = absurd declines
 declines-other (Command.Bench seed size options) bytes told declines = absurd declines
@@ -57,7 +57,7 @@ declines-other Command.Check bytes told declines = bad-other bytes told declines
 declines-other (Command.Resume options) bytes told declines = bad-other bytes told declines
 declines-other (Command.Weak seed turns) bytes told declines = absurd declines
 
--- of a program one status is told without a run
+-- a program has one status without a run
 pub settles-one : (command : Command) (front : Front) (program : Tree) (ahead more : List ℕ) (own also : Own) (told other : Status)
     → Settles command front program ahead own told → Settles command front program more also other → told ≡ other
 settles-one (Command.Run options) front program ahead more own also told other one two = absurd one
@@ -70,7 +70,7 @@ settles-one (Command.Resume options) front program ahead more own also told othe
     base-one program (entries_before front) ahead more own also told other one two
 settles-one (Command.Weak seed turns) front program ahead more own also told other one two = absurd one
 
--- not as a fault of the sink
+-- the status of a program without a run is no fault of the sink
 pub settles-other : (command : Command) (front : Front) (program : Tree) (ahead : List ℕ) (own : Own) (told : Status)
     → Settles command front program ahead own told → told ≢ Status.WriteFault
 settles-other (Command.Run options) front program ahead own told settles = absurd settles
@@ -81,7 +81,7 @@ settles-other Command.Check front program ahead own told settles = journal-other
 settles-other (Command.Resume options) front program ahead own told settles = base-other program (entries_before front) ahead own told settles
 settles-other (Command.Weak seed turns) front program ahead own told settles = absurd settles
 
--- whichever front is taken of the same bytes
+-- a program has one status, whichever front is taken of the same bytes
 pub settles-same : (command : Command) (bytes : List ℕ) (front other : Front) (text also : Text)
     → TakesInput command bytes front text → TakesInput command bytes other also
     → (program : Tree) (ahead : List ℕ) (own : Own) (told : Status) → Settles command front program ahead own told → Settles command other program ahead own told
@@ -95,7 +95,7 @@ settles-same (Command.Resume options) bytes front other text also one two progra
     subst (λ (es : List Entry). TellsOfBase program es ahead own told) (certificate-one bytes front other text also one two).1 settles
 settles-same (Command.Weak seed turns) bytes front other text also one two program ahead own told settles = settles
 
--- and not where a run is begun
+-- a program whose run is begun has no status without a run
 pub begins-unsettled : (command : Command) (front : Front) (program : Tree) (base : List Entry) → BeginsFrom command front program base
     → (ahead : List ℕ) (own : Own) (told : Status) → Settles command front program ahead own told → ⊥
 begins-unsettled (Command.Run options) front program base begins ahead own told settles = settles

@@ -1,4 +1,4 @@
--- What a weak run tells, once its labels are straightened.
+-- The end and the journal of a weak run, once its labels are straightened.
 use Rattle.std.proofs.Common.{◌≡◌, ◌≢◌, ℕ, zero, suc, ◌+◌, ◌*◌, ◌<◌, ◌≤◌, ◌==◌, ◌⊎◌, inl, inr, Bool, true, false, List, [], ◌∷◌, ◌++◌, map, length, drop, cond, All, Option, Some, None, is_some, option_and_then, if◌then◌else◌, refl, sym, ap, ◌∙◌, subst, arith, append_assoc, append-nil, ℤ}
 use Rattle.std.specs.Prelude.{Contains, IsSome, ◌||◌, slice_get, option_to_list}
 use Rattle.std.specs.List.{AllByRecursion, list_any}
@@ -134,7 +134,7 @@ note-ordinary : (ts : List Try) → AreFailedTries ts → AllByRecursion (λ t. 
 note-ordinary [] all = tt
 note-ordinary (t ∷ ts) all = (ap (λ (b : Bool). is_ordinary (if b then EntryKind.Stuck else EntryKind.Cut)) all.0, note-ordinary ts all.1)
 
--- A try that was made behind all labels is noted last
+-- An attempt that was made after all labels is noted last
 
 noted-more : (n : ℕ) (ts : List Try) (t : Try) → (t.after == n) ≡ false → noted_tries n (ts ++ t ∷ []) ≡ noted_tries n ts
 noted-more n [] t later = ap (λ (b : Bool). if b then note_for t ∷ [] else []) later
@@ -173,7 +173,7 @@ cut-last n m ts t p (label ∷ labels) end order last =
     ∙ ap (λ (es : List Entry). noted_tries n ts ++ es) (sym (append_assoc (entries_of_label p label) rest (note_for t ∷ [])))
     ∙ sym (append_assoc (noted_tries n ts) (entries_of_label p label ++ rest) (note_for t ∷ []))
 
--- the note of a stop is one of a value that would be too high
+-- the note of a stop is one of a value nested too deeply
 abbrev AreNotesOf : WeakStop → Type 0
 AreNotesOf (WeakStop.Tall entry) = entry ≡ tall_note entry.number entry.steps entry.fresh
 AreNotesOf stop = Unit {0}
@@ -214,14 +214,14 @@ module _ (labels : List Label) (tries : List Try) where
           (one-entry IsOrdinary (note_for cut.last) (ap is_ordinary (kind true is)))))
       by false is = inr (record { earlier = straight_with 0 cut.front outset labels; note = note_for cut.last; is = parts; its = kind false is; others = before })
 
-  -- the note of a value that would be too high stands last
+  -- the note of a value nested too deeply is the last entry
   tall-last : (entry : Entry) → entry ≡ tall_note entry.number entry.steps entry.fresh → AreFailedTries tries → IsTall entry.number (entries ++ entry ∷ [])
   tall-last entry is failed = record {
     ends = record { earlier = entries; note = entry; is = refl; its = ap (λ (e : Entry). e.kind) is; others = ordinary failed };
     its = refl;
   }
 
-  -- where no note is added
+  -- if no note is added, the entries stay
   as-before : (P : List Entry → Type 0) → P entries → P (entries ++ [])
   as-before P is = subst P (sym (append-nil entries)) is
 
@@ -398,7 +398,7 @@ module _ (program : Tree) (limit : ℕ) (labels : List Label) (tries : List Try)
 
 -- The note of the stop
 
--- what a stop notes holds at the end
+-- the fact that holds at the end if a run stops so
 abbrev HoldsAtEnd : WeakStop → State → Type 0
 HoldsAtEnd (WeakStop.Tall entry) s = IsTallIn s entry
 HoldsAtEnd stop s = Unit {0}
@@ -420,7 +420,7 @@ notes-hold WeakStop.Spent s tall = tt
 notes-hold (WeakStop.DeviceFault device) s tall = tt
 notes-hold WeakStop.NoMemory s tall = tt
 
--- so it is one that a journal may have
+-- the note of a stop is one that a journal may have
 stop-fit : (stop : WeakStop) → AreNotesOf stop → LeavesFit stop
 stop-fit (WeakStop.Tall entry) note = subst IsFit (sym note) (record { seat = omega arith; answer = refl })
 stop-fit WeakStop.Finished note = tt
@@ -566,7 +566,7 @@ TellsCallsWithAs accepted = TellsCallsWith (tree_of accepted.program.term)
 
 module _ (signature : Signature) (program : Tree) (straightens : Straightens program) (calls : TellsCalls program) (calls_with : TellsCallsWith program)
     (typed : AreTypedRuns signature program) where
-  -- what it tells
+  -- a weak run that was made keeps what the headline needs
   pub weak-tells : (limit : ℕ) (labels : List Label) (tries : List Try) (turns : ℕ) (stop : WeakStop) (weakened : WeakEnd)
       → IsWeakRunOf program limit labels tries stop → weakened.labels.items ≡ labels → weakened.tries.items ≡ tries
       → weakened.journal.entries ≡ journal_of_run labels tries stop → weakened.turns ≡ turns → weakened.stop ≡ stop_told stop → weakened.certificates.items ≡ certificates_told stop → (before after : List Told) → length after ≡ length before
@@ -624,7 +624,7 @@ module _ (signature : Signature) (program : Tree) (straightens : Straightens pro
         failed = λ ne. subst (λ (k : Stop). HaveFailed (Some k) before after) (sym stop_is) (fails-too stop before after (able ne).fails);
       }
 
--- where memory doesn't tell more than the turns
+-- a weak run that ran out of memory has only its turns
 pub untold-tells : (program : Tree) (limit : ℕ) (weakened : WeakEnd) → weakened.labels.items ≡ [] → weakened.tries.items ≡ [] → weakened.journal.entries ≡ []
     → weakened.stop ≡ Stop.NoMemory
     → (before after : List Told) → length after ≡ length before → TellsWeakly program limit weakened before after

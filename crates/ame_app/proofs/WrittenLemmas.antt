@@ -1,4 +1,4 @@
--- What is written behind what was sent.
+-- Bytes written after those that were sent.
 use Rattle.std.proofs.Common.{◌≡◌, ◌≢◌, ℕ, inl, inr, List, ◌++◌, Option, Some, sym, ◌∙◌, subst}
 use Rattle.std.proofs.KnownBytes.{Appends-trans}
 use Rattle.ame_io.specs.Counts.{HasRisen}
@@ -13,7 +13,7 @@ use Rattle.ame_app.specs.Jobs.{Speaks, SpeaksBehind}
 
 module _ (before mid after : Ends) (told status : Status) (text more : List ℕ)
     (speaks : Speaks told more status mid.written mid.write_faults after.written after.write_faults) where
-  -- behind a text that was sent whole
+  -- bytes are written after a text that was sent whole
   pub after-whole : told ≢ Status.WriteFault → IsSentWhole text before mid → IsWritten status (text ++ more) before after
   after-whole other sent = elim speaks [
     | inl s ↦ record {
@@ -29,7 +29,7 @@ module _ (before mid after : Ends) (told status : Status) (text more : List ℕ)
     }
   ]
 
--- behind a text that was sent in part nothing is written
+-- nothing is written after a text that was sent in part
 after-part : (before mid after : Ends) (status : Status) (text more : List ℕ) → status ≡ Status.WriteFault → after.written ≡ mid.written
     → after.write_faults ≡ mid.write_faults → IsSentInPart text before mid → IsWritten status (text ++ more) before after
 after-part before mid after status text more is stays kept sent = record {
@@ -41,7 +41,7 @@ after-part before mid after status text more is stays kept sent = record {
   );
 }
 
--- Behind the lines of a run, by the stop that its engine kept.
+-- After the lines of a run, a text is written by the stop that its engine kept.
 pub after-lines : (stop : Option Stop) (told : Status) (before mid after : Ends) (status : Status) (text more : List ℕ)
     → (stop ≢ Some Stop.WriteFault → told ≢ Status.WriteFault)
     → SpeaksBehind stop told more status mid.written mid.write_faults after.written after.write_faults
@@ -51,20 +51,20 @@ after-lines (Some Stop.WriteFault) told before mid after status text more other 
 after-lines stop told before mid after status text more other speaks sent =
     after-whole before mid after told status text more speaks (other (λ e. cc)) sent
 
--- where the sink failed at the lines, that is told
+-- if the sink failed at the lines, that is the status
 pub tells-fault : (stop : Option Stop) (told : Status) (more : List ℕ) (status : Status) (a : Option (List ℕ)) (m : ℕ) (b : Option (List ℕ)) (n : ℕ)
     → SpeaksBehind stop told more status a m b n → stop ≡ Some Stop.WriteFault → status ≡ Status.WriteFault
 tells-fault (Some Stop.WriteFault) told more status a m b n speaks e = speaks.0
 tells-fault stop told more status a m b n speaks e = absurd (cc)
 
--- the status of a call is what its verdict line tells, unless the sink failed
+-- the status of a call is that of its verdict line, unless the sink failed
 pub spoken-is : (stop : Option Stop) (told status : Status) (more : List ℕ) (a : Option (List ℕ)) (m : ℕ) (b : Option (List ℕ)) (n : ℕ)
     → SpeaksBehind stop told more status a m b n → status ≢ Status.WriteFault → status ≡ told
 spoken-is (Some Stop.WriteFault) told status more a m b n speaks ne = absurd (ne speaks.0)
 spoken-is stop told status more a m b n (inl s) ne = s.is
 spoken-is stop told status more a m b n (inr c) ne = absurd (ne c.is)
 
--- where all is written at once
+-- a text that is written at once is written by its status
 pub written-once : (before mid after : Ends) (told status : Status) (text : List ℕ) → mid.written ≡ before.written → mid.write_faults ≡ before.write_faults
     → told ≢ Status.WriteFault → Speaks told text status mid.written mid.write_faults after.written after.write_faults → IsWritten status text before after
 written-once before mid after told status text unwritten unfailed other speaks =

@@ -1,4 +1,4 @@
--- What a call is given, and the text that it is to run.
+-- The input of a call, and the text that it is to run.
 use Rattle.std.specs.Prelude.{◌≡◌, ℕ, ◌≤◌, Bool, true, false, List, [], Option, length}
 use Rattle.ame_io.specs.Reads.{whole_limit, IsReadWhole}
 use Rattle.ame_lex.specs.Bytes.{Text}
@@ -8,7 +8,7 @@ use Rattle.ame_cli.specs.Grammar.{SpellsCommand}
 use Rattle.ame_app.specs.declared.parts.Front.{Front}
 use Rattle.ame_app.specs.Verbs.{reads_source, TakesInput}
 
--- what a source tells: the bytes that it has left, where it tells them, and its count of faults
+-- what a source shows: the bytes that it has left, if it shows them, and its count of faults
 pub record Given : Type 0 where
   pub left : Option (List ℕ)
   pub faults : ℕ
@@ -16,7 +16,7 @@ pub record Given : Type 0 where
 abbrev pub what_is_given : {S : Type 0} → (S → Option (List ℕ)) → (S → ℕ) → S → Given
 what_is_given left faults source = record { left = left source; faults = faults source }
 
--- the words of a call, what its source tells before it and after it, and how many devices it is given
+-- the words of a call, what its source shows before it and after it, and how many devices it is given
 pub record Call : Type 0 where
   pub words : List Word
   pub source : Given
@@ -31,7 +31,7 @@ pub record IsReadThrough (source after : Given) (bytes : List ℕ) : Type 0 wher
   pub whole : IsReadWhole source.left after.left bytes
   pub faults : after.faults ≡ source.faults
 
--- so it is where the source is read; else there are no bytes, and it isn't touched
+-- if the source is read, it is read through; otherwise there are no bytes, and the source isn't touched
 abbrev pub IsInput : Bool → Given → Given → List ℕ → Type 0
 IsInput true source after bytes = IsReadThrough source after bytes
 IsInput false source after bytes = (bytes ≡ []) × (after ≡ source)
@@ -43,7 +43,7 @@ pub record IsTextOf (command : Command) (source after : Given) (front : Front) (
   pub most : length bytes ≤ whole_limit
   pub takes : TakesInput command bytes front text
 
--- the words spell this command, which has this front and this text, of at most so many bytes
+-- the words spell this command, which has this front and this text, whose length is within the limit
 pub record Asks (call : Call) (command : Command) (front : Front) (text : Text) : Type 0 where
   pub spelled : SpellsCommand call.words command
   pub text_is : IsTextOf command call.source call.source_after front text

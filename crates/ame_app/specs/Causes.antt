@@ -25,7 +25,7 @@ use Rattle.ame_app.specs.Verbs.Weak.{IsWeakFault}
 use Rattle.ame_app.specs.Calls.{Call, IsInput, Asks}
 use Rattle.ame_app.specs.Texts.{IsNoProgram, IsIllTyped, IsAcceptedText}
 
--- Where no run was begun
+-- Calls without a run
 
 -- the words spell no command, and the source wasn't touched
 pub record IsUsage (call : Call) : Type 0 where
@@ -49,7 +49,7 @@ pub record IsTooLong (call : Call) : Type 0 where
   pub given : GivesMoreThan whole_limit call.source.left call.source_after.left
   pub faults : call.source_after.faults ≡ call.source.faults
 
--- the bytes of the source are none that the command takes, which is told so
+-- the command doesn't take the bytes of the source, and has this status for that
 pub record IsDeclined (call : Call) (told : Status) : Type 0 where
   pub command : Command
   pub spelled : SpellsCommand call.words command
@@ -65,14 +65,14 @@ pub record IsUnreadable (call : Call) (text : Text) (fault : TextFault) : Type 0
   pub asked : Asks call command front text
   pub cause : IsNoProgram text fault
 
--- it is a program that the types refuse
+-- the text that was asked for is a program that the types refuse
 pub record IsRefusedByTypes (call : Call) (text : Text) (fault : TypeFault) : Type 0 where
   pub command : Command
   pub front : Front
   pub asked : Asks call command front text
   pub cause : IsIllTyped text call.devices fault
 
--- it is a program of which the command tells something without a run
+-- the text that was asked for is a program, which the command settles with this status, without a run
 pub record IsSettled (call : Call) (text : Text) (ahead : List ℕ) (own : Own) (told : Status) : Type 0 where
   pub command : Command
   pub front : Front
@@ -80,7 +80,7 @@ pub record IsSettled (call : Call) (text : Text) (ahead : List ℕ) (own : Own) 
   pub accepted : IsAcceptedText text call.devices
   pub settles : Settles command front accepted.source.tree ahead own told
 
--- memory was wanted, and the source didn't fail; one that isn't read wasn't touched
+-- memory ran out, and the source didn't fail; a source that isn't read wasn't touched
 pub record IsWithoutMemory (call : Call) : Type 0 where
   pub faults : call.source_after.faults ≡ call.source.faults
   pub untouched : (command : Command) → SpellsCommand call.words command → reads_source command ≡ false → call.source_after ≡ call.source
@@ -89,8 +89,8 @@ pub record IsWithoutMemory (call : Call) : Type 0 where
 abbrev pub IsAskedOrNone : Call → Text → Type 0
 IsAskedOrNone call text = (text ≡ []) ⊎ ((command : Command) × (front : Front) × Asks call command front text)
 
--- Why no run was begun, a case a cause: by the text that the report has, which is empty if none was taken, with the bytes that are written
--- ahead of the verdict line, and what the report has of the command's own.
+-- Why no run was begun, a case a cause. The text is that of the report, and is empty if none was taken. The bytes are those that are written
+-- before the verdict line. The last part is what the report has of the command's own.
 pub data RefusalCause (call : Call) (text : Text) : List ℕ → Own → Status → Type 0 where
   by_words : text ≡ [] → IsUsage call → RefusalCause call text [] Own.Nothing Status.Usage
   by_source : text ≡ [] → IsReadFault call → RefusalCause call text [] Own.Nothing Status.ReadFault
@@ -101,14 +101,14 @@ pub data RefusalCause (call : Call) (text : Text) : List ℕ → Own → Status 
   by_program : (ahead : List ℕ) (own : Own) (told : Status) → IsSettled call text ahead own told → RefusalCause call text ahead own told
   by_memory : IsAskedOrNone call text → IsWithoutMemory call → RefusalCause call text [] Own.Nothing Status.NoMemory
 
--- the report has the command that the words spell; without one, they spell none, or memory was wanted
+-- the report has the command that the words spell; if it has none, they spell none, or memory ran out
 abbrev pub IsNamed : Call → Option Command → Status → Type 0
 IsNamed call (Some command) told = SpellsCommand call.words command
 IsNamed call None told = SpellsNothing call.words ⊎ (told ≡ Status.NoMemory)
 
--- Where a run was begun
+-- Calls with a run
 
--- how a stop is told, with the number of certificates of members that are blocked
+-- the status of a stop, given the certificates of members that are blocked
 abbrev pub status_at : Option Stop → List Certificate → Status
 status_at (Some Stop.Finished) certificates = Status.Finished
 status_at (Some Stop.Blocked) certificates = Status.Blocked (length certificates)
@@ -119,11 +119,11 @@ status_at (Some Stop.WriteFault) certificates = Status.WriteFault
 status_at (Some (Stop.DeviceFault device)) certificates = Status.DeviceFault device
 status_at None certificates = Status.NoMemory
 
--- how a run is told that ended so
+-- the status of a run that ended so
 abbrev pub status_of : End Val → Status
 status_of end = status_at end.stop end.certificates
 
--- so many members are left, and for each there is a certificate that its condition is false
+-- this is the number of members that are left, and each has a certificate that its condition is false
 pub record IsBlocked (s : State) (certificates : List Certificate) (number : ℕ) : Type 0 where
   pub certified : CertifyAll s certificates
   pub number_is : number ≡ length s.members
@@ -133,13 +133,13 @@ pub record IsSpent (limit turns : ℕ) (s : State) : Type 0 where
   pub turns_are : turns ≡ limit
   pub left : s.members ≢ []
 
--- a device failed in this call, or its count stands at its last value; a member comes to a call of it by steps alone
+-- a device failed in this call, or its count stands at its last value; a member comes to a call of that device by local steps
 pub record IsDeviceFault (device : ℕ) (r : Replayed) (before after : Ends) : Type 0 where
   pub comes : ComesToCall r device
   pub faults : HasRisen (told_at before.told device).faults (told_at after.told device).faults
 
--- What the status tells of a run that was begun: of what its engine had at the end, of the state to which its journal leads,
--- and of its ends before and after.
+-- Each status of a run that was begun has its cause in the engine's end, in the state to which its journal leads, or in source, sink and
+-- devices before and after.
 abbrev pub RunCause : Status → Options → End Val → Replayed → Ends → Ends → Type 0
 RunCause Status.Finished options end r before after = r.state.members ≡ []
 RunCause (Status.Blocked number) options end r before after = IsBlocked r.state end.certificates number
@@ -150,7 +150,7 @@ RunCause Status.NoMemory options end r before after = ⊤
 RunCause Status.WriteFault options end r before after = HasRisen before.write_faults after.write_faults
 RunCause _ options end r before after = ⊥
 
--- so it is of the run of a command; where a device failed in a weak run, the member that called it may not have come in by an entry
+-- each status of a command's run has its cause; in a weak run, the caller of a device that failed may be in unprotected code without an entry
 abbrev pub CommandCause : Command → Status → Options → End Val → Replayed → Ends → Ends → Type 0
 CommandCause (Command.Weak seed turns) (Status.DeviceFault device) options end r before after = IsWeakFault device r.state before after
 CommandCause command status options end r before after = RunCause status options end r before after

@@ -1,4 +1,4 @@
--- What the status of a call must be.
+-- The status that a call must have.
 use Rattle.std.specs.Prelude.{◌≡◌, ◌⊎◌, ℕ, ◌<◌, ◌≤◌, Bool, true, false, List, [], Option, Some, None, Ok, Err, length, ⊤}
 use Rattle.ame_io.specs.Counts.{HasNotRisen}
 use Rattle.ame_io.specs.Reads.{whole_limit}
@@ -18,9 +18,9 @@ use Rattle.ame_app.specs.Verbs.{reads_source, TakesInput, Declines, Settles, opt
 use Rattle.ame_app.specs.Calls.{Given, Call}
 use Rattle.ame_app.specs.Texts.{IsNoProgram, IsIllTyped, IsAcceptedText}
 
--- What is given
+-- Input
 
--- the bytes that a command is given: those that the source has left, where it tells them; none, where it isn't read
+-- the bytes that a command is given: those that the source has left, if it shows them; none, if the command reads no source
 abbrev pub AreBytesOf : Bool → Given → List ℕ → Type 0
 AreBytesOf true source bytes = source.left ≡ Some bytes
 AreBytesOf false source bytes = bytes ≡ []
@@ -39,7 +39,7 @@ pub record IsGivenText (call : Call) (text : Text) : Type 0 where
   pub front : Front
   pub takes : TakesInput given.command bytes front text
 
--- the words spell a command, and the bytes that it is given, which aren't too many, are none that it takes, which is told so
+-- the words spell a command, which doesn't take the bytes that it is given, though they aren't too many, and has this status for that
 pub record IsGivenInVain (call : Call) (told : Status) : Type 0 where
   pub bytes : List ℕ
   pub given : IsGivenBytes call bytes
@@ -51,7 +51,7 @@ pub record IsUnread (text : Text) : Type 0 where
   pub why : ReadingFault
   pub reads : reading text ≡ Err why
 
--- it is a program that breaks a rule of the types with so many devices
+-- the text is a program that breaks a rule of the types with this number of devices
 pub record IsRefused (text : Text) (devices : ℕ) : Type 0 where
   pub source : Source
   pub fault : TypeFault
@@ -64,25 +64,25 @@ pub record NothingFailed (call : Call) (before after : Ends) : Type 0 where
   pub sink : HasNotRisen before.write_faults after.write_faults
   pub devices : (k : ℕ) → HasNotRisen (told_at before.told k).faults (told_at after.told k).faults
 
--- What the status is
+-- Status
 
--- the status is this one, or memory was wanted
+-- the status is this one, or memory ran out
 abbrev pub IsUnlessMemory : Status → Status → Type 0
 IsUnlessMemory told status = (status ≡ told) ⊎ (status ≡ Status.NoMemory)
 
--- it tells the first fault of the text, or memory was wanted
+-- the status has the first error of the text, or memory ran out
 abbrev pub TellsFault : Text → Status → Type 0
 TellsFault text (Status.Text fault) = IsNoProgram text fault
 TellsFault text Status.NoMemory = ⊤
 TellsFault text _ = ⊥
 
--- it tells the first rule that the text breaks, or memory was wanted
+-- the status has the first rule that the text breaks, or memory ran out
 abbrev pub TellsRule : Text → ℕ → Status → Type 0
 TellsRule text devices (Status.Types fault) = IsIllTyped text devices fault
 TellsRule text devices Status.NoMemory = ⊤
 TellsRule text devices _ = ⊥
 
--- it tells how a run ended, or memory was wanted
+-- the status says how a run ended, or memory ran out
 abbrev pub TellsEnd : Status → Type 0
 TellsEnd Status.Finished = ⊤
 TellsEnd (Status.Blocked number) = ⊤
@@ -91,17 +91,17 @@ TellsEnd (Status.Tall number) = ⊤
 TellsEnd Status.NoMemory = ⊤
 TellsEnd _ = ⊥
 
--- so it does where a run is to be made with some options; where none is, memory was wanted
+-- if a run is to be made with some options, the status says how it ended; if none is, memory ran out
 abbrev pub TellsEndWith : Option Options → Status → Type 0
 TellsEndWith (Some options) status = TellsEnd status
 TellsEndWith None status = status ≡ Status.NoMemory
 
--- the command tells it of the program without a run; or a run is made, of which it tells the end
+-- the command settles the program with this status, without a run; or a run is made, and the status says how it ended
 abbrev pub TellsOutcome : Command → Front → Tree → Status → Type 0
 TellsOutcome command front program status =
     ((ahead : List ℕ) × (own : Own) × Settles command front program ahead own status) ⊎ TellsEndWith (options_of command) status
 
--- it tells that the text is too long, or what is wrong with it, or memory was wanted
+-- the status says that the text is too long, or what is wrong with it, or memory ran out
 abbrev pub TellsText : Status → Type 0
 TellsText Status.TooLong = ⊤
 TellsText (Status.Text fault) = ⊤
@@ -109,18 +109,18 @@ TellsText (Status.Types fault) = ⊤
 TellsText Status.NoMemory = ⊤
 TellsText _ = ⊥
 
--- it tells something of a text, or that some bytes are none that the command takes, or of a program what the command tells of it
+-- the status is one of a text, of bytes that the command doesn't take, or of a program, for some bytes and some program
 abbrev pub TellsInput : Command → Status → Type 0
 TellsInput command status =
     TellsText status ⊎ (((bytes : List ℕ) × Declines command bytes status) ⊎ ((front : Front) × (program : Tree) × TellsOutcome command front program status))
 
--- a device that failed is told, or else a weak run wanted memory behind it
+-- the status names the device that failed, unless memory ran out in a weak run after that
 abbrev pub TellsDevice : Call → ℕ → Status → Type 0
 TellsDevice call k status =
     (status ≡ Status.DeviceFault k) ⊎ ((status ≡ Status.NoMemory) × (seed : ℕ) × (turns : ℕ) × SpellsCommand call.words (Command.Weak seed turns))
 
--- Where nothing failed, the words, what they are given and its text decide the status, but for how a run ends and for want of
--- memory. Where something failed the status tells it: the sink first, then a device, then the source.
+-- If nothing failed, the words, what they are given and its text decide the status, except for how a run ends and for out of memory.
+-- If something failed, the status says so: the sink first, then a device, then the source.
 pub record IsComplete (call : Call) (status : Status) (before after : Ends) : Type 0 where
   pub usage : NothingFailed call before after → SpellsNothing call.words → IsUnlessMemory Status.Usage status
   pub spelled : NothingFailed call before after → (command : Command) → SpellsCommand call.words command → TellsInput command status

@@ -1,4 +1,4 @@
--- What is promised of a call.
+-- The promises of a call.
 use Rattle.std.specs.Prelude.{◌≡◌, ◌≢◌, ◌≤◌, ◌++◌, ℕ, List, map, length, All, Some, None}
 use Rattle.std.specs.Io.KnownBytes.{Appends}
 use Rattle.ame_io.specs.Counts.{HasRisen}
@@ -54,27 +54,27 @@ pub record IsStore (code : FlatCode) (cells : List (Cell Val)) (s : State) : Typ
   pub free : All IsFree cells
   pub forms : All (λ cell. IsRefForm (program_of code) cell.sort cell.ty.0) cells
 
--- The values stored and the members are typed, where each location has the sort of its cell, and the type of what the `ref` form with
--- the cell's number stores.
+-- The values stored and the members are typed. Each location has the sort of its cell, and the type of what the `ref` form with the cell's
+-- number stores.
 abbrev pub IsTypedState : FlatCode → List (Cell Val) → State → Type 0
 IsTypedState code cells s =
     IsTyped (signature_of code.accepted) (types_in (map typ_of code.accepted.ref_tys.items) (map (shown_cell (value_meant code)) cells)) s
 
--- each device has heard what the journal tells behind the entries from which the run was opened; none failed, but for the one that the stop tells
+-- each device heard what the journal has after the entries from which the run was opened; none failed, except the one that the stop names
 pub record DevicesTell (code : FlatCode) (end : End Val) (before after : Ends) : Type 0 where
   pub heard : HaveHeardSince (program_of code) end.base end.entries before.told after.told
   pub failed : HaveFailed end.stop before.told after.told
 
--- so it is unless memory was wanted
+-- unless memory ran out, each device heard the journal's calls, and none failed except the one that the stop names
 pub record DevicesTellIfAble (code : FlatCode) (end : End Val) (before after : Ends) : Type 0 where
   pub able : end.stop ≢ Some Stop.NoMemory → DevicesTell code end before after
 
--- what devices tell of the run of a command: of a weak run that wanted memory the journal may lack what they heard
+-- each device heard the calls in the journal of a command's run; that isn't claimed of a weak run that ran out of memory
 abbrev pub DevicesTellOf : Command → FlatCode → End Val → Ends → Ends → Type 0
 DevicesTellOf (Command.Weak seed turns) code end before after = DevicesTellIfAble code end before after
 DevicesTellOf command code end before after = DevicesTell code end before after
 
--- That a fragment waits is noted once until somebody commits; in a weak run, also until a location is new.
+-- That a fragment waits is noted once until the next commit; in a weak run, also until a location is new.
 abbrev pub IsNotedOnceBy : Command → List Entry → Type 0
 IsNotedOnceBy (Command.Weak seed turns) journal = AreNotedApart journal
 IsNotedOnceBy command journal = IsNotedOnce journal
@@ -83,26 +83,26 @@ IsNotedOnceBy command journal = IsNotedOnce journal
 abbrev pub verdict_of : End Val → List ℕ
 verdict_of end = verdict (status_of end)
 
--- A text was written, by the status of the call: all of it; after a fault of the sink a front of it, and nothing more.
+-- A text was written, by the status of the call: all of it; after a fault of the sink, a prefix of it and nothing more.
 pub record IsWritten (status : Status) (text : List ℕ) (before after : Ends) : Type 0 where
   pub whole : status ≢ Status.WriteFault → Appends before.written after.written text × (after.write_faults ≡ before.write_faults)
   pub front : status ≡ Status.WriteFault → AppendsFront before.written after.written text × HasRisen before.write_faults after.write_faults
 
--- the limits for which the words ask
+-- the limits that the options ask for
 abbrev pub limits_of : Options → Limits
 limits_of options = record { turns = options.turns; slice = options.slice; seats = options.workers }
 
--- the limits are shown, and of a weak run that memory let go to its end that its turns are at most as many as they may be
+-- the limits are shown; if a weak run didn't run out of memory, its turns are within them
 pub record IsLimited (limits : Limits) (end : End Val) : Type 0 where
   pub limited : end.limits ≡ limits
   pub most : end.stop ≢ Some Stop.NoMemory → end.turns ≤ limits.turns
 
--- what a run of a command shows of its limits and its turns: only an engine counts them by their kinds
+-- the run of a command shows its limits and its turns; only an engine counts turns by their kinds
 abbrev pub ShowsTurns : Command → Limits → End Val → Type 0
 ShowsTurns (Command.Weak seed turns) limits end = IsLimited limits end
 ShowsTurns command limits end = ShowsCounts limits end
 
--- The headline: what is promised of a call in which a run was begun, by the run and its end, with what its ends tell before and after.
+-- The headline: the promises of a call in which a run was begun, for the run and its end, by what source, sink and devices show before and after.
 pub record Headline (call : Call) (report : Reported) (run : RunView) (end : End Val) (before after : Ends) : Type 0 where
   pub command : Command
   pub front : Front
@@ -117,11 +117,11 @@ pub record Headline (call : Call) (report : Reported) (run : RunView) (end : End
   pub text_is : report.text ≡ text
   pub program : IsProgramOf text call.devices compiled.accepted
   pub code_is : run.code ≡ compiled
-  -- The journal, which begins as the command says, replays from the program as one run of the strong semantics.
+  -- The journal begins as the command says. It replays from the program as one run of the strong semantics.
   pub begun : BeginsFrom command front (program_of compiled) end.base
   pub replays : replay (program_of compiled) (journal_of end) ≡ Some final
   pub seats : AreOfSeats options.workers end.entries
-  -- What was written is the output of that run, a line each, and the verdict line; what is left and reported is its state.
+  -- The bytes written are the output of that run, a line each, and the verdict line. The state of that run is left and reported.
   pub output : IsWritten report.status (lines final.state.output ++ (verdict_of end ++ written_behind command run.left (status_of end))) before after
   pub printed : end.output ≡ final.state.output
   pub store : IsStore compiled end.cells final.state
@@ -133,19 +133,19 @@ pub record Headline (call : Call) (report : Reported) (run : RunView) (end : End
   pub spoken : report.status ≢ Status.WriteFault → report.status ≡ status_of end
   -- The run has what the command promises of its own.
   pub own : Promises command front (program_of compiled) options run.left
-  -- A fragment that was cut off, or that came to a value that is too high, is noted last, and only with that stop. That a fragment
-  -- waits is noted once until somebody commits.
+  -- The note of a fragment that was cut off, or that came to a value nested too deeply, is the last entry, and comes only with that stop. That a
+  -- fragment waits is noted once until the next commit.
   pub notes : NotesStop end.stop end.entries
   pub once : IsNotedOnceBy command (journal_of end)
-  -- The limits are those of the words. Each turn of an engine is counted by its kind, and there are at most as many turns as the words let be.
+  -- The limits are those of the words. Each turn of an engine is counted by its kind, and the turns stay within their limit.
   pub shown : ShowsTurns command (limits_of options) end
-  -- One worker by itself has nobody in its way.
+  -- A lone worker meets no conflict and no invalid read.
   pub lone : options.workers ≡ 1 → NoneWereInTheWay end.counters
-  -- Few answers turned a fragment back, at most eight for each fragment that there ever was and for each entry, and few tries left no
-  -- entry. Turns that are used up were spent on entries and on tries; with one worker by itself there is no try then.
+  -- Few answers rolled a fragment back, at most eight for each fragment that there ever was and for each entry, and few attempts left no
+  -- entry. Turns that are used up were spent on entries and on attempts; a lone worker makes no such attempt.
   pub bounds : HasBounds (program_of compiled) (limits_of options) final end.base end.entries end.turns end.counters end.tried end.stop
 
--- Just the verdict line of a refusal was written, behind what stands ahead of it. There is no run, and no device was called.
+-- Only the bytes before the verdict line and that line of a refusal were written. There is no run, and no device was called.
 pub record IsToldAlone (ahead : List ℕ) (own : Own) (told : Status) (report : Reported) (before after : Ends) : Type 0 where
   pub spoken : report.status ≢ Status.WriteFault → report.status ≡ told
   pub output : IsWritten report.status (ahead ++ verdict told) before after
@@ -153,7 +153,7 @@ pub record IsToldAlone (ahead : List ℕ) (own : Own) (told : Status) (report : 
   pub nothing : report.run ≡ None
   pub own_is : report.own ≡ own
 
--- What is promised of a call in which no run was begun: what is told of it has its cause, and the report has the command.
+-- The promises of a call in which no run was begun: the status has its cause, and the report has the command.
 pub record IsTurnedAway (call : Call) (report : Reported) (before after : Ends) : Type 0 where
   pub ahead : List ℕ
   pub own : Own

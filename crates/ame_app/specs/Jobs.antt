@@ -1,4 +1,4 @@
--- What comes before a run, the run, and what is written after it, for the private functions.
+-- Steps of a call for its private functions: what comes before a run, the run, and what is written after it.
 use Rattle.std.specs.Prelude.{◌≡◌, ◌≢◌, ℕ, ℤ, ◌*◌, ◌≤◌, ◌++◌, ◌⊎◌, List, [], length, Option, Some, ⊤}
 use Rattle.std.specs.Io.KnownBytes.{Appends}
 use Rattle.ame_io.specs.Counts.{HasRisen}
@@ -57,7 +57,7 @@ use Rattle.ame_app.specs.Left.{end_in}
 use Rattle.ame_app.specs.Reported.{Reported}
 use Rattle.ame_app.specs.Headline.{limits_of, IsStore, IsTypedState, IsToldAlone}
 
--- How failures of what comes before a run are told
+-- Failures before a run, as statuses
 
 abbrev pub words_told : CliFail → Status
 words_told CliFail.Usage = Status.Usage
@@ -81,13 +81,13 @@ types_told (TypesFail.Fault fault) = Status.Types fault
 types_told TypesFail.TooLarge = Status.NoMemory
 types_told TypesFail.NoMemory = Status.NoMemory
 
--- What is to be run
+-- The job
 
--- the bytes are none that the command takes, which is told so, or memory was wanted
+-- the command doesn't take the bytes, and has this status for that, or memory ran out
 abbrev pub IsUntaken : Command → List ℕ → Status → Type 0
 IsUntaken command bytes told = Declines command bytes told ⊎ (told ≡ Status.NoMemory)
 
--- a command with a front, and code of its text
+-- a command, what it takes before the text, and code of the text
 pub record IsJobOf (call : Call) (text : Text) (code : FlatCode) (command : Command) (front : Front) : Type 0 where
   pub asked : Asks call command front text
   pub program : IsProgramOf text call.devices code.accepted
@@ -99,7 +99,7 @@ IsTextStatus text devices (Status.Types fault) = IsIllTyped text devices fault
 IsTextStatus text devices Status.NoMemory = ⊤
 IsTextStatus text devices _ = ⊥
 
--- What comes of it
+-- Outlook of a job
 
 -- what code, values and machines of programs mean
 abbrev pub fragments : Meaning FlatCode Val Fragment
@@ -134,7 +134,7 @@ pub record IsOpened (command : Command) (front : Front) (code : FlatCode) (engin
   pub limits_are : engine.limits ≡ limits_of options
   pub resumed : HasJustResumed engine
 
--- something is told without a run, or a run goes on from an engine, or one begins with nothing
+-- the command settles the program without a run, or a run goes on from an engine, or one begins with nothing
 abbrev pub IsOutlook : Command → Front → FlatCode → Outlook → Type 0
 IsOutlook command front code (Outlook.Told settled) = Settles command front (program_of code) settled.ahead.items settled.own settled.told
 IsOutlook command front code (Outlook.GoesOn engine) = IsOpened command front code engine
@@ -174,7 +174,7 @@ HasWeakStop (Stop.Tall number) limit weak s = IsTall number weak.journal.entries
 HasWeakStop Stop.NoMemory limit weak s = ⊤
 HasWeakStop stop limit weak s = ⊥
 
--- what a weak run tells, with what devices tell before and after
+-- a weak run has a journal of its labels and attempts, its stop has a cause, and devices heard and failed accordingly
 pub record TellsWeakly (program : Tree) (limit : ℕ) (weak : WeakEnd) (before after : List Told) : Type 0 where
   pub straight : IsWeakJournal program weak.labels.items weak.tries.items weak.journal.entries
   pub paid : weak.stop ≢ Stop.NoMemory → weak.turns ≤ 3 * total_steps weak.journal.entries
@@ -195,7 +195,7 @@ pub record IsLeftOf (code : FlatCode) (cells : List (Cell Val)) (output : List �
   pub typed : IsTypedState code cells s
   pub printed : output ≡ s.output
 
--- so it is of the state to which entries lead
+-- cells and output are those of the state to which entries lead
 abbrev pub LeadsToLeft : FlatCode → List Entry → List (Cell Val) → List ℤ → Type 0
 LeadsToLeft code entries cells output = (led : Replayed) → replay (program_of code) entries ≡ Some led → IsLeftOf code cells output led.state
 
@@ -204,7 +204,7 @@ pub record HasLeft (code : FlatCode) (limits : Limits) (weak : WeakEnd) : Type 0
   pub limits_are : weak.limits ≡ limits
   pub leads : LeadsToLeft code weak.journal.entries weak.store weak.output.items
 
--- a weak run is over, and its lines are yet to be written
+-- a weak run is over, and its lines aren't written yet
 pub record IsWeakRunMade (turns : ℕ) (code : FlatCode) (before : Ends) (left : Left) (ahead : List ℕ) (after : Ends) : Type 0 where
   pub weak : WeakEnd
   pub left_is : left ≡ Left.Weak weak
@@ -214,12 +214,12 @@ pub record IsWeakRunMade (turns : ℕ) (code : FlatCode) (before : Ends) (left :
   pub unwritten : after.written ≡ before.written
   pub unfailed : after.write_faults ≡ before.write_faults
 
--- the run of a command is over, with these bytes to be written ahead of the verdict line if it was a weak run
+-- the run of a command is over; if it was weak, these bytes are to be written before the verdict line
 abbrev pub IsRunMade : Command → Front → FlatCode → Ends → Left → List ℕ → Ends → Type 0
 IsRunMade (Command.Weak seed turns) front code before left ahead after = IsWeakRunMade turns code before left ahead after
 IsRunMade command front code before left ahead after = IsEngineRunMade command front code before left after
 
--- no run was begun of a job: what is told is what its command tells of the program, or memory was wanted
+-- no run was begun of a job: its command settles the program with this status, or memory ran out
 pub record IsLeft (command : Command) (front : Front) (code : FlatCode) (report : Reported) (before after : Ends) : Type 0 where
   pub ahead : List ℕ
   pub own : Own
@@ -248,28 +248,28 @@ abbrev pub certificates_told : WeakStop → List Certificate
 certificates_told (WeakStop.Blocked certificates) = certificates.items
 certificates_told stop = []
 
--- What is written
+-- Output
 
--- a text was written whole, and the status is as before
+-- a text was written whole, and the status is the one that was to be reported
 pub record IsSpoken (told : Status) (text : List ℕ) (status : Status) (written : Option (List ℕ)) (faults : ℕ) (after : Option (List ℕ)) (faults_after : ℕ)
     : Type 0 where
   pub is : status ≡ told
   pub appended : Appends written after text
   pub stayed : faults_after ≡ faults
 
--- it was written in part, and the sink failed
+-- the text was written in part, and the sink failed
 pub record IsCutShort (text : List ℕ) (status : Status) (written : Option (List ℕ)) (faults : ℕ) (after : Option (List ℕ)) (faults_after : ℕ)
     : Type 0 where
   pub is : status ≡ Status.WriteFault
   pub appended : AppendsFront written after text
   pub risen : HasRisen faults faults_after
 
--- one or the other
+-- the text was written whole, or it was cut short
 abbrev pub Speaks : Status → List ℕ → Status → Option (List ℕ) → ℕ → Option (List ℕ) → ℕ → Type 0
 Speaks told text status written faults after faults_after =
     IsSpoken told text status written faults after faults_after ⊎ IsCutShort text status written faults after faults_after
 
--- After the lines of a run a text was written, by the stop that its engine kept; nothing was, where that is a fault of the sink.
+-- After the lines of a run a text was written, by the stop that its engine kept. Nothing was written if that stop is a fault of the sink.
 abbrev pub SpeaksBehind : Option Stop → Status → List ℕ → Status → Option (List ℕ) → ℕ → Option (List ℕ) → ℕ → Type 0
 SpeaksBehind (Some Stop.WriteFault) told text status written faults after faults_after =
     (status ≡ Status.WriteFault) × (after ≡ written) × (faults_after ≡ faults)

@@ -1,4 +1,4 @@
--- What a run left, whichever way it was made.
+-- The results of a run, by an engine or by the weak semantics.
 use Rattle.std.specs.Prelude.{[], Option, Some, None}
 use Rattle.ame_value.specs.declared.val.Val.{Val}
 use Rattle.ame_protocol.specs.Event.Counting.{nothing_counted}
@@ -28,7 +28,7 @@ abbrev pub engine_in : Left → Option (End Val)
 engine_in (Left.Engine end extra) = Some end
 engine_in (Left.Weak weak) = None
 
--- what the command has next to it
+-- what the command adds to the engine's end
 abbrev pub extra_in : Left → Option Extra
 extra_in (Left.Engine end extra) = Some extra
 extra_in (Left.Weak weak) = None

@@ -1,4 +1,4 @@
--- What a call reports, but for its sink and its devices.
+-- The report of a call, without its sink and its devices.
 use Rattle.std.specs.Prelude.{Option, option_map}
 use Rattle.std.specs.Arc.{arc_value}
 use Rattle.ame_lex.specs.Bytes.{Text}
@@ -18,8 +18,8 @@ pub record RunView : Type 0 where
 abbrev pub run_view : Ran → RunView
 run_view ran = record { code = arc_value ran.code; left = ran.left }
 
--- How a call ended; the text of the program, which is empty where none was taken; the command that the words spell; the run, if one was
--- begun; and what the command has of its own if none was.
+-- The status of a call; the text of the program, which is empty if none was taken; the command that the words spell; the run, if one was
+-- begun; and what the command adds if no run was begun.
 pub record Reported : Type 0 where
   pub status : Status
   pub text : Text

@@ -16,11 +16,11 @@ abbrev pub faults_of : StandardDevice → ℕ
 faults_of (StandardDevice.Counter device) = device.faults
 faults_of (StandardDevice.Adder device) = device.faults
 
--- what a sink tells, and so many devices that heard nothing yet
+-- what a sink shows, and a number of devices that heard nothing yet
 abbrev pub with_new : ℕ → Option (List ℕ) → ℕ → Ends
 with_new count written faults = record { written = written; write_faults = faults; told = replicate count (told (Some []) 0) }
 
--- there was no memory for the devices: none come back, no run was begun, and want of memory is told
+-- there was no memory for the devices: none come back, no run was begun, and the status is out of memory
 pub record HasNoDevices (count : ℕ) (report : Reported) : Type 0 where
   pub none : count ≡ 0
   pub unbegun : report.run ≡ None

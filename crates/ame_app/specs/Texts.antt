@@ -1,4 +1,4 @@
--- What a text is: a program that the types accept, or none, and why.
+-- Texts that are programs, and errors of those that aren't.
 use Rattle.std.specs.Prelude.{◌≡◌, ℕ, Ok, Err}
 use Rattle.ame_lex.specs.Bytes.{Text}
 use Rattle.ame_lex.specs.declared.tokens.LexFault.{LexFault}
@@ -17,25 +17,25 @@ abbrev pub why_of : TextFault → ReadingFault
 why_of (TextFault.Lexical fault) = ReadingFault.Lexical fault
 why_of (TextFault.Syntactic fault) = ReadingFault.Syntactic fault
 
--- the text is no program, and this is its first fault; want of memory is none
+-- the text is no program, and this is its first error; out of memory is no such error
 abbrev pub IsNoProgram : Text → TextFault → Type 0
 IsNoProgram text (TextFault.Lexical LexFault.NoMemory) = ⊥
 IsNoProgram text (TextFault.Syntactic ParseFault.NoMemory) = ⊥
 IsNoProgram text fault = reading text ≡ Err (why_of fault)
 
--- the text is a program that isn't Unit under protected with so many devices, and this is its first fault
+-- the text is a program that isn't Unit under protected with this number of devices, and this is its first error
 pub record IsIllTyped (text : Text) (devices : ℕ) (fault : TypeFault) : Type 0 where
   pub source : Source
   pub reads : reading text ≡ Ok source
   pub is : typing devices source.places source.tree ≡ Err (fault_of fault)
 
--- the text is a program that the types accept with so many devices
+-- the text is a program that the types accept with this number of devices
 pub record IsAcceptedText (text : Text) (devices : ℕ) : Type 0 where
   pub source : Source
   pub reads : reading text ≡ Ok source
   pub typed : typing devices source.places source.tree ≡ Ok Typ.Unit
 
--- the accepted program is that of the text, and is Unit under protected with so many devices
+-- the accepted program is that of the text, and is Unit under protected with this number of devices
 pub record IsProgramOf (text : Text) (count : ℕ) (accepted : Accepted) : Type 0 where
   pub reads : reading text ≡ Ok (source_of accepted.program)
   pub devices : accepted.devices ≡ count

@@ -1,4 +1,4 @@
--- What each command does: tables with a row a verb.
+-- Tables of the commands, a row each.
 pub mod Run
 pub mod Bench
 pub mod Sim
@@ -25,9 +25,9 @@ use Rattle.ame_app.specs.Verbs.Resume.{TellsOfBase, BeginsFromActs, TellsResumed
 use Rattle.ame_app.specs.Verbs.Weak.{alone_with, IsWeakened}
 use Rattle.ame_sim.specs.Drawn.{drawn}
 
--- What is given
+-- Input
 
--- whether the source is read
+-- says if a command reads the source
 abbrev pub reads_source : Command → Bool
 reads_source (Command.Run options) = true
 reads_source (Command.Bench seed size options) = false
@@ -47,7 +47,7 @@ TakesInput Command.Check bytes front text = TakesCertificate bytes front text
 TakesInput (Command.Resume options) bytes front text = TakesCertificate bytes front text
 TakesInput (Command.Weak seed turns) bytes front text = TakesAll bytes front text
 
--- they are no front and text, which is told so
+-- the bytes are no front and text, and the command has this status for that
 abbrev pub Declines : Command → List ℕ → Status → Type 0
 Declines (Command.Run options) bytes told = ⊥
 Declines (Command.Bench seed size options) bytes told = ⊥
@@ -57,9 +57,9 @@ Declines Command.Check bytes told = HasNoCertificate bytes told
 Declines (Command.Resume options) bytes told = HasNoCertificate bytes told
 Declines (Command.Weak seed turns) bytes told = ⊥
 
--- What is told without a run
+-- Statuses without a run
 
--- what is told of a program, with the bytes ahead of the verdict line and what the report has of the command's own
+-- the status of a program, with the bytes before the verdict line and what the report has of the command's own
 abbrev pub Settles : Command → Front → Tree → List ℕ → Own → Status → Type 0
 Settles (Command.Run options) front program ahead own told = ⊥
 Settles (Command.Bench seed size options) front program ahead own told = ⊥
@@ -69,9 +69,9 @@ Settles Command.Check front program ahead own told = TellsOfJournal program (ent
 Settles (Command.Resume options) front program ahead own told = TellsOfBase program (entries_before front) ahead own told
 Settles (Command.Weak seed turns) front program ahead own told = ⊥
 
--- What is run
+-- Runs
 
--- the options of the run, where one is to be made
+-- the options of the run, if one is to be made
 abbrev pub options_of : Command → Option Options
 options_of (Command.Run options) = Some options
 options_of (Command.Bench seed size options) = Some options
@@ -91,9 +91,9 @@ BeginsFrom Command.Check front program base = ⊥
 BeginsFrom (Command.Resume options) front program base = BeginsFromActs program (entries_before front) base
 BeginsFrom (Command.Weak seed turns) front program base = BeginsWithNothing base
 
--- What is told
+-- Results
 
--- what a run of a program left that the command made
+-- the run that a command made of a program left what the command promises
 abbrev pub Promises : Command → Front → Tree → Options → Left → Type 0
 Promises (Command.Run options) front program with left = HasNothing left
 Promises (Command.Bench seed size options) front program with left = HasNothing left

@@ -1,4 +1,4 @@
--- How a status is told: its number and its line.
+-- The number and the line of a status.
 use Rattle.std.specs.Prelude.{ℕ, List, [], ◌++◌, codes, decimal}
 use Rattle.ame_lex.specs.declared.tokens.LexFault.{LexFault}
 use Rattle.ame_parse.specs.declared.fault.Want.{Want}
@@ -50,7 +50,7 @@ want_line Want.Closing = codes "refused: expected closing at "
 abbrev pub line_at : List ℕ → ℕ → List ℕ
 line_at text number = text ++ (decimal number ++ codes "\n")
 
--- the line of a fault of the bytes, or of the tokens
+-- the line of an error in the bytes, or in the tokens
 abbrev pub lexical_line : LexFault → List ℕ
 lexical_line (LexFault.BadByte place) = line_at (codes "refused: bad byte at ") place
 lexical_line (LexFault.LongNumber place) = line_at (codes "refused: long number at ") place

@@ -33,9 +33,9 @@ use std::alloc::Global;
 use std::sync::Wait;
 use std::thread::Threads;
 
-/// Does what the words ask for: runs the program of the source or a generated one, by as many workers as they say, writes the
-/// integers that it prints, a line each, and then a verdict line. Each worker passes the gate after each of its turns. Sink and
-/// devices are handed back.
+/// Carries out the command that the words spell. A run is made by as many workers as they say, and prints its integers, a line each.
+/// The verdict line follows. Each worker passes the gate after each of its turns. The report has the sink and the devices, with what
+/// was written and called.
 pub fn run_words_over<R, S, K, D, G>(
     rt: &R,
     alloc: Global,
@@ -100,7 +100,7 @@ where
     }
 }
 
-/// Does the same with boxed devices.
+/// Calls `run_words_over` with boxed devices.
 pub fn run_words<R, S, K, G>(
     rt: &R,
     alloc: Global,
@@ -170,7 +170,7 @@ where
     }
 }
 
-/// Makes a run, from an engine where it goes on from one, and reports how it ended.
+/// Makes a run, from the engine if there is one, and reports how it ended.
 fn run<R, K, D, G>(
     rt: &R,
     alloc: Global,

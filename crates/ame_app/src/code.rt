@@ -19,7 +19,7 @@ use ame_types::check;
 use std::alloc::Global;
 use std::sync::Arc;
 
-/// The code of a text, or why there is none.
+/// Reads, types and compiles a text. The error is the status of a text that is no typed program, or `NoMemory`.
 pub(crate) fn code_of(alloc: Global, text: &[u8], devices: u32) -> Result<Arc<Code>, Status>
     requires small { length text.now ≤ READ_LIMIT }
     requires few { devices ≤ max_devices }
@@ -33,7 +33,7 @@ pub(crate) fn code_of(alloc: Global, text: &[u8], devices: u32) -> Result<Arc<Co
     Ok(Arc::new(alloc, compile(alloc, accepted)?)?)
 }
 
-/// What an accepted program keeps: it is Unit under protected.
+/// Says that an accepted program is Unit under protected.
 fn accepted_is_typed(accepted: &Accepted)
     ensures { typing accepted.now.devices accepted.now.program.places.items (tree_of accepted.now.program.term) ≡ Ok Typ.Unit }
 {}

@@ -7,14 +7,14 @@ ghost use Rattle.ame_app.specs.Verdict.{number_of};
 use crate::report::Report;
 use std::process::ExitCode;
 
-/// The exit status with this number.
+/// Makes the exit status with this number.
 pub fn exit_with(number: u8) -> ExitCode
     ensures { exit_status result ≡ number }
 {
     ExitCode::from(number)
 }
 
-/// The exit status of a process whose call ended with this report: the number of its status. Drops all else of the report.
+/// Returns the number of a report's status as an exit status. Drops the rest of the report.
 pub fn exit_of<K: Drop, D: Drop>(report: Report<K, D>) -> ExitCode
     ensures { exit_status result ≡ number_of report.status }
 {

@@ -1,9 +1,9 @@
-//! Why a text is no program, and why words can't be read.
+//! Reasons why a text is no program, or why words can't be read.
 
 use ame_lex::LexFault;
 use ame_parse::ParseFault;
 
-/// Why a text is no program, and where: an offset in bytes.
+/// The reason why a text is no program, with its place: an offset in bytes.
 #[derive(Clone, Copy, PartialEq, Eq, Debug)]
 pub enum TextFault {
     /// Its bytes are no tokens.
@@ -12,7 +12,7 @@ pub enum TextFault {
     Syntactic(ParseFault),
 }
 
-/// Why the words of a process can't be read.
+/// The reason why the words of a process can't be read.
 #[derive(Clone, Copy, PartialEq, Eq, Debug)]
 pub enum WordsFault {
     /// One of them isn't text.

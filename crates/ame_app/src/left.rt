@@ -1,4 +1,4 @@
-//! What a run left.
+//! The results of a run.
 
 ghost use Rattle.std.specs.Prelude.{◌≡◌, option_map};
 ghost use Rattle.ame_app.specs.Left.{end_in, engine_in};
@@ -21,36 +21,36 @@ pub struct Ran {
     pub left: Left,
 }
 
-/// What a run left, by what made it.
+/// The results of a run, by the kind of run.
 #[derive(Drop)]
 pub enum Left {
-    /// An engine made it, and the command has this of its own.
+    /// An engine made the run, and the command adds this.
     Engine(Ended<Val>, Extra),
-    /// It was a run of the weak semantics.
+    /// The run was weak.
     Weak(WeakEnd),
 }
 
-/// What a command has of a run that an engine made, next to the engine's end.
+/// The part that a command adds to the engine's end.
 #[derive(Drop)]
 pub enum Extra {
     Nothing,
-    /// What each pick did, of a run on one thread.
+    /// The picks of a run on one thread, with what each of them did.
     Picked(Mades),
-    /// From how many entries the run went on.
+    /// The number of entries from which the run went on.
     Resumed(u64),
 }
 
-/// The end of a run of the weak semantics, and the strong run that looks like it.
+/// The end of a weak run, and the strong run with the same output and store.
 #[derive(Drop)]
 pub struct WeakEnd {
     pub limits: Limits,
     /// The labels of the weak run, in order.
     pub labels: Vec<Label>,
-    /// The fragments that were tried and came to nothing.
+    /// The attempts that left no entry.
     pub tries: Vec<Try>,
-    /// The entries of the strong run, with a note for each of the tries.
+    /// The entries of the strong run, with a note for each attempt.
     pub journal: Journal,
-    /// The turns of the weak run.
+    /// The number of turns of the weak run.
     pub turns: u32,
     pub stop: Stop,
     /// A certificate for each member that is left, if all are blocked.
@@ -60,7 +60,7 @@ pub struct WeakEnd {
 }
 
 impl Left {
-    /// The engine's end, if an engine made the run.
+    /// Returns the engine's end, if an engine made the run.
     pub fn ended(&self) -> Option<&Ended<Val>>
         ensures { option_map (λ end. end.now) result ≡ engine_in self.now }
     {
@@ -70,7 +70,7 @@ impl Left {
         }
     }
 
-    /// The entries from which the run went on.
+    /// Returns the entries from which the run went on.
     pub fn base(&self) -> &[Entry]
         ensures { result.now ≡ (end_in self.now).base }
     {
@@ -80,7 +80,7 @@ impl Left {
         }
     }
 
-    /// The entries of the run after those from which it went on.
+    /// Returns the entries of the run after those from which it went on.
     pub fn journal(&self) -> &[Entry]
         ensures { result.now ≡ (end_in self.now).entries }
     {
@@ -90,7 +90,7 @@ impl Left {
         }
     }
 
-    /// The turns of the run.
+    /// Returns the number of turns of the run.
     pub fn turns(&self) -> u32
         ensures { result ≡ (end_in self.now).turns }
     {
@@ -100,7 +100,7 @@ impl Left {
         }
     }
 
-    /// The fragments that were tried and left no entry. The journal of a weak run notes them.
+    /// Returns the attempts of an engine's run that left no entry. The journal of a weak run notes its own.
     pub fn tried(&self) -> &[Tried]
         ensures { result.now ≡ (end_in self.now).tried }
     {
@@ -110,7 +110,7 @@ impl Left {
         }
     }
 
-    /// Why the run stopped.
+    /// Returns why the run stopped.
     pub fn stopped(&self) -> Option<Stop>
         ensures { result ≡ (end_in self.now).stop }
     {
@@ -120,7 +120,7 @@ impl Left {
         }
     }
 
-    /// A certificate for each member that is left, in order of their numbers, if that is the stop.
+    /// Returns a certificate for each member that is left, in order of their numbers, if all are blocked.
     pub fn certificates(&self) -> &[Certificate]
         ensures { result.now ≡ (end_in self.now).certificates }
     {
@@ -130,7 +130,7 @@ impl Left {
         }
     }
 
-    /// The cells that the run left.
+    /// Returns the cells that the run left.
     pub fn store(&self) -> &Store<Val>
         ensures { result.now ≡ (end_in self.now).cells }
     {
@@ -140,7 +140,7 @@ impl Left {
         }
     }
 
-    /// The integers that the run printed.
+    /// Returns the integers that the run printed.
     pub fn output(&self) -> &[i64]
         ensures { result.now ≡ (end_in self.now).output }
     {

@@ -1,4 +1,4 @@
-//! From words and a program's bytes to its lines: reading, checking, running, and telling how it ended.
+//! From words and a program's bytes to its lines: reading, checking, running, and reporting how it ended.
 #![tactic(auto)]
 
 mod asked;

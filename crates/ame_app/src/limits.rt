@@ -6,7 +6,7 @@ ghost use Rattle.ame_app.specs.Headline.{limits_of};
 use ame_cli::Options;
 use ame_protocol::Limits;
 
-/// Those for which options ask.
+/// Returns the limits that options ask for.
 pub(crate) fn limits_of(options: Options) -> Limits
     ensures { result ≡ limits_of options }
 {

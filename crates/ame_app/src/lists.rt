@@ -25,14 +25,14 @@ impl Model for Picks {
 }
 
 impl Picks {
-    /// The seats of a vector, whose memory they keep.
+    /// Makes a list of the seats of a vector, without copying them.
     pub fn from_vec(items: Vec<u32>) -> Picks
         ensures { result ≡ items.items }
     {
         Picks { items }
     }
 
-    /// The seats, in order.
+    /// Returns the seats, in order.
     pub fn as_slice(&self) -> &[u32]
         ensures { self.now ≡ result.now }
     {
@@ -40,7 +40,7 @@ impl Picks {
     }
 }
 
-/// What picks did, one after the other, each of one of 32 seats. Contracts see the list.
+/// A list of what picks did, each of a seat below 32. Contracts see the list.
 #[derive(Drop)]
 pub struct Mades {
     mades: PackedMades,
@@ -58,7 +58,7 @@ impl Model for Mades {
 }
 
 impl Mades {
-    /// What the picks of a run did, in its memory.
+    /// Makes the list of what the picks of a run did, without copying it.
     pub fn of_run(mades: PackedMades) -> Mades
         requires { All (λ made. made.seat < 32) mades.items }
         ensures { result ≡ mades.items }
@@ -66,14 +66,14 @@ impl Mades {
         Mades { mades }
     }
 
-    /// How many there are.
+    /// Returns the number of picks.
     pub fn len(&self) -> usize
         ensures { result ≡ length self.now }
     {
         self.mades.len()
     }
 
-    /// What each pick did, in order.
+    /// Returns an iterator over what each pick did, in order.
     pub fn iter(&self) -> MadesIter<'_>
         ensures value { result ≡ self.now }
         ensures low { All (λ made. made.seat < 32) result }
@@ -81,7 +81,7 @@ impl Mades {
         self.mades.iter()
     }
 
-    /// The picks, in order.
+    /// Returns the picks, in order.
     pub fn picks(&self) -> &[Picked]
         ensures value { result.now ≡ picks_of self.now }
         ensures low { All (λ pick. pick.seat < 32) result.now }
@@ -89,7 +89,7 @@ impl Mades {
         self.mades.picks()
     }
 
-    /// The schedule of these picks, with the text of the program that it is for, as one text that can be run again.
+    /// Returns the schedule of these picks and the text of their program as one text, which `replay` can run.
     pub fn schedule_text(&self, alloc: Global, text: &[u8]) -> Result<Vec<u8>, NoMemory>
         ensures { IfOk result (λ bytes. IsScheduled bytes.items (seats_of (picks_of self.now)) text.now) }
     {

@@ -1,10 +1,10 @@
-//! What a command has next to a program: in what it is given, and in what it reports without a run.
+//! The parts of a command next to its program: one in its input, one in its report without a run.
 
 use crate::lists::Picks;
 use ame_check::Reason;
 use ame_journal::Journal;
 
-/// What stands before the text of a program in the bytes that a command is given.
+/// The part before the text of a program in the bytes that a command is given.
 #[derive(Drop)]
 pub enum Front {
     Nothing,
@@ -14,10 +14,10 @@ pub enum Front {
     Journal(Journal),
 }
 
-/// What a report has of the command's own where no run was begun.
+/// The part that a command adds to its report if no run was begun.
 #[derive(Drop)]
 pub enum Own {
     Nothing,
-    /// Why an entry of a certificate can't be made.
+    /// The reason why an entry of a certificate can't be made.
     Unmade(Reason),
 }

@@ -27,7 +27,7 @@ use std::io::ErrorKind;
 use std::sync::Wait;
 use std::thread::Threads;
 
-/// The words after the program's name. A word that isn't text is no word of a call.
+/// Returns the words after the program's name. A word that isn't text is an error.
 pub fn process_words<R: Env + Alloc<A = Global>>(rt: &R) -> Result<Vec<String>, WordsFault> {
     let args = match env::args(rt) {
         Ok(args) => args,
@@ -88,7 +88,7 @@ where
     }
 }
 
-/// The devices of a process.
+/// Makes the two devices of a process.
 fn standard_devices(alloc: Global) -> Result<Vec<StandardDevice>, AllocError>
     ensures { IfOk result (λ devices. all_told heard_by faults_of devices.items ≡ told (Some []) 0 ∷ told (Some []) 0 ∷ []) }
 {

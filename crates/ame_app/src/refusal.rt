@@ -39,7 +39,7 @@ pub(crate) fn turn_away<K: Sink + Drop, D: Device>(
     tell(&[], Own::Nothing, refusal, sink, devices)
 }
 
-/// Reports the same, after some bytes ahead, with what the command has of its own.
+/// Writes some bytes and the verdict line, and reports why no run was begun, with what the command has of its own.
 fn tell<K: Sink + Drop, D: Device>(
     ahead: &[u8],
     own: Own,
@@ -74,7 +74,7 @@ fn tell<K: Sink + Drop, D: Device>(
     }
 }
 
-/// Reports the same of a sink and devices that are one value.
+/// Writes and reports that with a sink and devices that are one value.
 pub(crate) fn turn_back<K: Sink + Drop, D: Device>(
     ahead: &[u8],
     own: Own,

@@ -1,4 +1,4 @@
-//! What a call reports.
+//! The report of a call.
 
 use crate::left::Ran;
 use crate::parts::Own;
@@ -6,17 +6,17 @@ use crate::status::Status;
 use ame_cli::Command;
 use ame_journal::{Certificate, Entry};
 
-/// How a call ended, the text that was read or generated, the command, the run, and the sink and the devices that were handed in.
+/// The end of a call: its status, text, command and run, with the sink and the devices that were handed in.
 #[derive(Drop)]
 pub struct Report<K, D> {
     pub status: Status,
-    /// The text of the program, in which a status has its places; empty where none was read or generated.
+    /// The text of the program; the places of a status are offsets in it. It is empty if none was read or generated.
     pub text: Vec<u8>,
     /// The command that the words spell, with its limits.
     pub command: Option<Command>,
-    /// Given exactly where a run was begun.
+    /// The run, if one was begun.
     pub run: Option<Ran>,
-    /// What the command has of its own where no run was begun.
+    /// The part that the command adds if no run was begun.
     pub own: Own,
     pub sink: K,
     pub devices: Vec<D>,
@@ -28,7 +28,7 @@ impl<K, D> Report<K, D> {
     ghost use Rattle.ame_app.specs.Verdict.{number_of};
     ghost use Rattle.ame_app.specs.Left.{end_in};
 
-    /// The number of the status, with which a process ends. All else is let go.
+    /// Returns the number of the status, which is the exit status of a process. Drops the rest.
     pub fn into_number(self) -> u8
     where
         K: Drop,
@@ -38,7 +38,7 @@ impl<K, D> Report<K, D> {
         self.status.number()
     }
 
-    /// A certificate for each member that is left, in order of their numbers, where all are blocked.
+    /// Returns a certificate for each member that is left, in order of their numbers, if all are blocked.
     pub fn blocked(&self) -> &[Certificate]
         ensures blocked { (members : ℕ) → self.now.status ≡ Status.Blocked members → IfSome self.now.run (λ run. result.now ≡ (end_in run.left).certificates) }
         ensures other { ((members : ℕ) → self.now.status ≢ Status.Blocked members) → result.now ≡ [] }
@@ -50,7 +50,7 @@ impl<K, D> Report<K, D> {
         }
     }
 
-    /// The entries from which the run went on; none where no run was begun.
+    /// Returns the entries from which the run went on; none if no run was begun.
     pub fn base(&self) -> &[Entry]
         ensures ran { IfSome self.now.run (λ run. result.now ≡ (end_in run.left).base) }
         ensures none { self.now.run ≡ None → result.now ≡ [] }
@@ -61,7 +61,7 @@ impl<K, D> Report<K, D> {
         }
     }
 
-    /// The entries of the run after those from which it went on; none where no run was begun.
+    /// Returns the entries of the run after those from which it went on; none if no run was begun.
     pub fn journal(&self) -> &[Entry]
         ensures ran { IfSome self.now.run (λ run. result.now ≡ (end_in run.left).entries) }
         ensures none { self.now.run ≡ None → result.now ≡ [] }
@@ -72,7 +72,7 @@ impl<K, D> Report<K, D> {
         }
     }
 
-    /// The turns of the run; none where no run was begun.
+    /// Returns the number of turns of the run; 0 if no run was begun.
     pub fn turns(&self) -> u32
         ensures ran { IfSome self.now.run (λ run. result ≡ (end_in run.left).turns) }
         ensures none { self.now.run ≡ None → result ≡ 0 }

@@ -1,4 +1,4 @@
-//! Writing how a call ended.
+//! Writes how a call ended.
 
 ghost use Rattle.std.specs.Prelude.{◌++◌};
 ghost use Rattle.ame_app.specs.Jobs.{Speaks, SpeaksAfter, SpeaksBehind};
@@ -12,7 +12,7 @@ use ame_cli::Command;
 use ame_engine::Stop;
 use ame_io::{Sink, write_all, write_line};
 
-/// Writes some bytes and then the verdict line of a status, and tells the status of the call: the same, unless the sink fails.
+/// Writes some bytes and the verdict line of a status. Returns that status, or `WriteFault` if the sink fails.
 pub(crate) fn speak_behind<K: Sink>(sink: &mut K, ahead: &[u8], told: Status) -> Status
     ensures { Speaks told (ahead.now ++ verdict told) result (K.written sink.old) (K.faults sink.old) (K.written sink.new) (K.faults sink.new) }
 {
@@ -39,7 +39,7 @@ fn speak_of<K: Sink>(sink: &mut K, told: Status, command: &Command, left: &Left)
     }
 }
 
-/// Writes the same after the lines of a run that an engine made; nothing, if the sink failed at those.
+/// Writes these two after the lines of a run that an engine made. Writes nothing if the sink failed at those lines.
 fn speak_on<K: Sink>(
     sink: &mut K,
     stopped: Option<Stop>,
@@ -56,7 +56,7 @@ fn speak_on<K: Sink>(
     }
 }
 
-/// Writes the lines of a weak run, and then the same.
+/// Writes the lines of a weak run, then its verdict line, and then what its command writes after it.
 fn speak_weakly<K: Sink>(
     sink: &mut K,
     ahead: &[u8],
@@ -73,7 +73,7 @@ fn speak_weakly<K: Sink>(
     speak_of(sink, told, command, left)
 }
 
-/// Writes how a run ended. The lines of a weak run are those ahead; those of another one were written as it ran.
+/// Writes how a run ended. The bytes `ahead` are the lines of a weak run; an engine's lines were written as it ran.
 pub(crate) fn speak_after<K: Sink>(
     sink: &mut K,
     ahead: &[u8],

@@ -1,4 +1,4 @@
-//! How a call ends.
+//! The status of a call.
 
 ghost use Rattle.std.specs.Prelude.{◌≡◌};
 ghost use Rattle.ame_app.specs.Verdict.{number_of, verdict};
@@ -13,19 +13,19 @@ use ame_io::Line;
 use ame_journal::Certificate;
 use ame_types::TypeFault;
 
-/// How a call ends.
+/// The status of a call.
 #[derive(Drop)]
 pub enum Status {
     /// No member is left.
     Finished,
-    /// So many members are left, and the condition of each is false.
+    /// This number of members are left, and the condition of each is false.
     Blocked(u64),
-    /// All turns are used, and members are left.
+    /// All turns are used up, and members are left.
     Spent,
     /// The words aren't those of a call.
     Usage,
     ReadFault,
-    /// The source has more bytes than one may have.
+    /// The source has more than `READ_LIMIT` bytes.
     TooLong,
     /// The text is no program.
     Text(TextFault),
@@ -34,26 +34,26 @@ pub enum Status {
     /// This device failed.
     DeviceFault(u8),
     NoMemory,
-    /// The member with this number came to a value that is too high.
+    /// The member with this number came to a value that is nested too deeply.
     Tall(u64),
     /// The source doesn't begin with a schedule and the line `program`.
     BadSchedule,
-    /// The certificate is that of a run, by so many entries.
+    /// The certificate is that of a run, with this number of entries.
     Valid(u64),
     /// This entry of the certificate, from 1, is the first that can't be made.
     Invalid(u64),
-    /// This line of the journal, from 1, is the first that tells no entry; or there is no line `program`, and all lines stand before it.
+    /// This line of the journal, from 1, is the first that spells no entry. If no line is `program`, it is the line after the last line feed.
     BadJournal(u32),
-    /// With this entry of the journal, from 1, its steps and entries are more than are judged.
+    /// With this entry of the journal, from 1, its steps and entries exceed what is judged.
     LongJournal(u64),
     /// This entry of the journal without its notes, from 1, is the first with a location that is too far for a run to go on.
     FarJournal(u64),
-    /// This entry of the journal without its notes, from 1, passes a form whose value would be too high.
+    /// This entry of the journal without its notes, from 1, passes a form whose value would be nested too deeply.
     TallJournal(u64),
 }
 
 impl Status {
-    /// The status of the process.
+    /// Returns the exit status of the process.
     pub fn number(&self) -> u8
         ensures { result ≡ number_of self.now }
     {
@@ -79,7 +79,7 @@ impl Status {
         }
     }
 
-    /// The verdict line, with its line feed; it is empty after a write fault.
+    /// Returns the verdict line, with its line feed. It is empty after a write fault.
     pub fn line(&self) -> Line
         ensures { result.bytes ≡ verdict self.now }
     {
@@ -113,7 +113,7 @@ impl Status {
         Status::at(left.stopped(), left.certificates())
     }
 
-    /// How a stop is told, with the certificates of members that are blocked.
+    /// Returns the status of a stop, given the certificates of blocked members.
     fn at(stop: Option<Stop>, certificates: &[Certificate]) -> Status
         ensures { result ≡ status_at stop certificates.now }
     {

@@ -1,4 +1,4 @@
-//! How failures of what comes before a run are told.
+//! Failures before a run, as statuses.
 
 ghost use Rattle.std.specs.Prelude.{◌≡◌};
 ghost use Rattle.ame_app.specs.Jobs.{words_told, source_told, bytes_told, tokens_told, types_told};

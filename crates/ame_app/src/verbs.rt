@@ -1,4 +1,4 @@
-//! What each command does: functions with an arm a verb.
+//! The work of each command: functions with an arm a command.
 
 mod bench;
 mod check;
@@ -34,7 +34,7 @@ use std::alloc::Global;
 use std::sync::{Arc, Wait};
 use std::thread::Threads;
 
-/// Code to run, by a command and with what stood before its text.
+/// Code to run, by a command, with what was before its text.
 #[derive(Drop)]
 pub(crate) struct Job {
     pub(crate) code: Arc<Code>,
@@ -42,14 +42,14 @@ pub(crate) struct Job {
     pub(crate) front: Front,
 }
 
-/// What a command takes of the bytes that it is given.
+/// The parts that a command takes of the bytes that it is given.
 #[derive(Drop)]
 pub(crate) struct Taken {
     pub(crate) front: Front,
     pub(crate) text: Vec<u8>,
 }
 
-/// What is told of a program without a run: the bytes ahead of the verdict line, and what the command has of its own.
+/// A status that is reported without a run, with the bytes to write before the verdict line, and what the command has of its own.
 #[derive(Drop)]
 pub(crate) struct Settled {
     pub(crate) told: Status,
@@ -57,10 +57,10 @@ pub(crate) struct Settled {
     pub(crate) own: Own,
 }
 
-/// What comes of a job.
+/// The way in which a job goes on: by a status, or by a run.
 #[derive(Drop)]
 pub(crate) enum Outlook {
-    /// This is told without a run.
+    /// This status is reported without a run.
     Told(Settled),
     /// A run begins with nothing.
     Begins,
@@ -68,14 +68,14 @@ pub(crate) enum Outlook {
     GoesOn(Engine<Fragment>),
 }
 
-/// What a run left, and the lines of a weak run, which are yet to be written.
+/// A finished run. If it was weak, `ahead` has its lines, which are yet to be written.
 pub(crate) struct Made<K: Sink, D: Device> {
     pub(crate) left: Left,
     pub(crate) ahead: Vec<u8>,
     pub(crate) io: Io<K, D>,
 }
 
-/// Whether a command reads its source.
+/// Returns true if a command reads its source.
 pub(crate) fn reads_source(command: &Command) -> bool
     ensures { result ≡ spec.reads_source command.now }
 {
@@ -90,7 +90,7 @@ pub(crate) fn reads_source(command: &Command) -> bool
     }
 }
 
-/// The front and the text of a command, or that the bytes are none that it takes.
+/// Returns the front and the text of a command. The error is the status of bytes that it doesn't take.
 pub(crate) fn take(alloc: Global, command: &Command, bytes: Vec<u8>) -> Result<Taken, Status>
     requires ranges { IsInRange command.now }
     requires most { vec_len bytes ≤ READ_LIMIT }
@@ -106,7 +106,7 @@ pub(crate) fn take(alloc: Global, command: &Command, bytes: Vec<u8>) -> Result<T
     }
 }
 
-/// This is told, with nothing ahead of the verdict line.
+/// Makes a status with no bytes before the verdict line.
 fn told_alone(alloc: Global, told: Status, own: Own) -> Settled
     ensures told { result.told ≡ told }
     ensures ahead { result.ahead.items ≡ [] }
@@ -119,7 +119,7 @@ fn told_alone(alloc: Global, told: Status, own: Own) -> Settled
     }
 }
 
-/// What a command tells of a program without a run, or how its run begins.
+/// Returns the status that a command reports without a run, or how its run begins.
 pub(crate) fn settle(alloc: Global, job: &Job) -> Result<Outlook, NoMemory>
     requires ranges { IsInRange job.now.command }
     ensures { IfOk result (IsOutlook job.now.command job.now.front (arc_value job.now.code)) }
@@ -135,8 +135,8 @@ pub(crate) fn settle(alloc: Global, job: &Job) -> Result<Outlook, NoMemory>
     }
 }
 
-/// Makes the run that a command asks for, from an engine where it goes on from one. Where nothing was begun, for want of memory, it
-/// hands sink and devices back as they were.
+/// Makes the run that a command asks for, from the engine if there is one. If nothing was begun, because memory ran out, sink and devices
+/// come back as they were.
 pub(crate) fn make<R, K, D, G>(
     rt: &R,
     alloc: Global,

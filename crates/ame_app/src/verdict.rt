@@ -1,4 +1,4 @@
-//! The lines that tell how a call ended.
+//! The verdict lines.
 
 ghost use Rattle.std.specs.Prelude.{◌≡◌, ◌≤◌, ◌++◌, length, codes, decimal};
 ghost use Rattle.ame_app.specs.Verdict.{text_line, lexical_line, syntactic_line, want_line};
@@ -10,7 +10,7 @@ use ame_parse::{ParseFault, Want};
 use ame_types::TypeFault;
 use itoa::Buffer;
 
-/// A text and a line feed.
+/// Returns a text and a line feed.
 pub(crate) fn plain(text: &str) -> Line
     requires { length text.now ≤ 40 }
     ensures { result.bytes ≡ text.now ++ codes "\n" }
@@ -21,7 +21,7 @@ pub(crate) fn plain(text: &str) -> Line
     line
 }
 
-/// A text, a number and a line feed.
+/// Returns a text, a number and a line feed.
 pub(crate) fn numbered(text: &str, number: u64) -> Line
     requires { length text.now ≤ 40 }
     ensures { result.bytes ≡ text.now ++ (decimal number ++ codes "\n") }
@@ -34,7 +34,7 @@ pub(crate) fn numbered(text: &str, number: u64) -> Line
     line
 }
 
-/// A text, a place and a line feed.
+/// Returns a text, a place and a line feed.
 fn placed(text: &str, place: u32) -> Line
     requires { length text.now ≤ 40 }
     ensures { result.bytes ≡ text.now ++ (decimal place ++ codes "\n") }
@@ -42,7 +42,7 @@ fn placed(text: &str, place: u32) -> Line
     numbered(text, place as u64)
 }
 
-/// The line of what was expected at a place.
+/// Returns the line that says what was expected at a place.
 fn expected(want: Want, place: u32) -> Line
     ensures { result.bytes ≡ want_line want ++ (decimal place ++ codes "\n") }
 {
@@ -59,7 +59,7 @@ fn expected(want: Want, place: u32) -> Line
     }
 }
 
-/// The line of a fault of the bytes.
+/// Returns the line of an error in the bytes.
 fn lexical(fault: LexFault) -> Line
     ensures { result.bytes ≡ lexical_line fault }
 {
@@ -70,7 +70,7 @@ fn lexical(fault: LexFault) -> Line
     }
 }
 
-/// The line of a fault of the tokens.
+/// Returns the line of an error in the tokens.
 fn syntactic(fault: ParseFault) -> Line
     ensures { result.bytes ≡ syntactic_line fault }
 {
@@ -83,7 +83,7 @@ fn syntactic(fault: ParseFault) -> Line
     }
 }
 
-/// The line of a fault of the text.
+/// Returns the line of a text that is no program.
 pub(crate) fn refused(fault: &TextFault) -> Line
     ensures { result.bytes ≡ text_line fault.now }
 {
@@ -93,7 +93,7 @@ pub(crate) fn refused(fault: &TextFault) -> Line
     }
 }
 
-/// The line of a fault of the types.
+/// Returns the line of a program that breaks a rule of the types.
 pub(crate) fn ill_typed(fault: &TypeFault) -> Line
     ensures { result.bytes ≡ codes "types: rule " ++ (decimal fault.now.rule ++ (codes " at " ++ (decimal fault.now.place ++ codes "\n"))) }
 {
@@ -107,7 +107,7 @@ pub(crate) fn ill_typed(fault: &TypeFault) -> Line
     line
 }
 
-/// The line of a device that failed.
+/// Returns the line of a device that failed.
 pub(crate) fn device_failed(device: u8) -> Line
     ensures { result.bytes ≡ codes "device " ++ (decimal device ++ (codes " failed" ++ codes "\n")) }
 {

@@ -1,4 +1,4 @@
--- `check`: a source that is a certificate, a journal and the text of the program of which it tells a run. What is told of it is told without a run.
+-- `check`: a source that is a certificate: the journal of a run, and the text of its program. The journal is judged without a run.
 use Rattle.std.specs.Prelude.{◌≡◌, ℕ, ◌+◌, ◌==◌, ℤ, ◌⊎◌, List, [], length, take, drop, count_by}
 use Rattle.ame_io.specs.Lines.{lines}
 use Rattle.ame_lex.specs.Bytes.{Text}
@@ -13,9 +13,9 @@ use Rattle.ame_app.specs.declared.parts.Front.{Front}
 use Rattle.ame_app.specs.declared.parts.Own.{Own}
 use Rattle.ame_app.specs.declared.status.Status.{Status}
 
--- What is given
+-- Input
 
--- before the first line `program` stand the lines of a journal, and behind it the text
+-- the bytes are the lines of a journal, the first line `program`, and the text after it
 pub record TakesCertificate (bytes : List ℕ) (front : Front) (text : Text) : Type 0 where
   pub journal : JournalView
   pub front_is : front ≡ Front.Journal journal
@@ -37,20 +37,20 @@ pub record HasBadEntry (bytes : List ℕ) (n : ℕ) : Type 0 where
   pub split : IsSplit bytes before start
   pub bad : IsFirstBadLine (take before bytes) n
 
--- the bytes are no certificate, and this line is told
+-- the bytes are no certificate, and the status has this line
 pub record HasNoCertificate (bytes : List ℕ) (told : Status) : Type 0 where
   pub line : ℕ
   pub told_is : told ≡ Status.BadJournal line
   pub why : HasNoProgram bytes line ⊎ HasBadEntry bytes line
 
--- What is told
+-- The judgement
 
--- the entries of the journal before the text, where there is one
+-- the entries of the journal before the text, if there is one
 abbrev pub entries_before : Front → List Entry
 entries_before (Front.Journal journal) = journal.entries
 entries_before _ = []
 
--- n is the number of entries, which lead to a state, and the lines of its output stand ahead
+-- n is the number of entries, which lead to a state, and the lines of its output are written before the verdict line
 pub record IsValidJournal (program : Tree) (entries : List Entry) (ahead : List ℕ) (own : Own) (n : ℕ) : Type 0 where
   pub output : List ℤ
   pub leads : LeadsTo program entries output
@@ -71,7 +71,7 @@ pub record IsTooMuch (entries : List Entry) (ahead : List ℕ) (own : Own) (n : 
   pub ahead_is : ahead ≡ []
   pub own_is : own ≡ Own.Nothing
 
--- what is told of a journal of a program, a row a status
+-- the status of a journal of a program, a row a status
 abbrev pub TellsOfJournal : Tree → List Entry → List ℕ → Own → Status → Type 0
 TellsOfJournal program entries ahead own (Status.Valid n) = IsValidJournal program entries ahead own n
 TellsOfJournal program entries ahead own (Status.Invalid n) = IsUnmade program entries ahead own n

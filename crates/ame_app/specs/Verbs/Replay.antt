@@ -14,7 +14,7 @@ pub record TakesScheduled (bytes : List ℕ) (front : Front) (text : Text) : Typ
   pub front_is : front ≡ Front.Schedule picks
   pub scheduled : IsScheduled bytes picks text
 
--- they don't begin with two such lines
+-- the bytes don't begin with two such lines
 pub record HasNoSchedule (bytes : List ℕ) (told : Status) : Type 0 where
   pub told_is : told ≡ Status.BadSchedule
   pub none : (picks text : List ℕ) → ¬ IsScheduled bytes picks text

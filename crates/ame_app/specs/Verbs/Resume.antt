@@ -1,5 +1,5 @@
--- `resume`: a source that is a certificate, as for `check`. A run goes on from the journal without its notes; where none can, what is told of the
--- journal is told without a run.
+-- `resume`: a source that is a certificate, as for `check`. A run goes on from the journal without its notes. If none can, the journal is refused
+-- without a run.
 use Rattle.std.specs.Prelude.{◌≡◌, ℕ, ℤ, List, [], length, take, false, Some}
 use Rattle.ame_term.specs.Tree.{Tree}
 use Rattle.ame_journal.specs.declared.entry.Entry.{Entry}
@@ -13,7 +13,7 @@ use Rattle.ame_app.specs.declared.status.Status.{Status}
 use Rattle.ame_app.specs.Left.{end_in, extra_in}
 use Rattle.ame_app.specs.Verbs.Check.{IsUnmade, IsTooMuch}
 
--- What is told
+-- Refusals
 
 -- the journal leads to a state, and of its entries that are no notes the n-th is the first with a location that is too far for an engine
 pub record IsTooFar (program : Tree) (entries : List Entry) (ahead : List ℕ) (own : Own) (n : ℕ) : Type 0 where
@@ -23,7 +23,7 @@ pub record IsTooFar (program : Tree) (entries : List Entry) (ahead : List ℕ) (
   pub ahead_is : ahead ≡ []
   pub own_is : own ≡ Own.Nothing
 
--- an entry that is no note, the n-th of those, passes a form that would become a value that is too high
+-- an entry that is no note, the n-th of those, passes a form whose value would be nested too deeply
 pub record IsTallJournal (program : Tree) (entries : List Entry) (ahead : List ℕ) (own : Own) (n : ℕ) : Type 0 where
   pub place : ℕ
   pub tall : IsTallAt program entries place
@@ -32,7 +32,7 @@ pub record IsTallJournal (program : Tree) (entries : List Entry) (ahead : List �
   pub ahead_is : ahead ≡ []
   pub own_is : own ≡ Own.Nothing
 
--- what is told of a journal of a program from which no run can go on, a row a status
+-- the status of a journal from which no run of a program can go on, a row a status
 abbrev pub TellsOfBase : Tree → List Entry → List ℕ → Own → Status → Type 0
 TellsOfBase program entries ahead own (Status.Invalid n) = IsUnmade program entries ahead own n
 TellsOfBase program entries ahead own (Status.LongJournal n) = IsTooMuch entries ahead own n
@@ -40,7 +40,7 @@ TellsOfBase program entries ahead own (Status.FarJournal n) = IsTooFar program e
 TellsOfBase program entries ahead own (Status.TallJournal n) = IsTallJournal program entries ahead own n
 TellsOfBase program entries ahead own _ = ⊥
 
--- What is run
+-- The run
 
 -- the run goes on from the entries that are no notes, of a journal that leads to a state; an engine has cells for all their locations
 pub record BeginsFromActs (program : Tree) (entries base : List Entry) : Type 0 where
@@ -49,6 +49,6 @@ pub record BeginsFromActs (program : Tree) (entries base : List Entry) : Type 0 
   pub acts : base ≡ without_notes entries
   pub near : (n : ℕ) → IsFar base n → ⊥
 
--- an engine makes it, and the report has how many they are
+-- an engine makes the run, and the report has the number of those entries
 abbrev pub TellsResumed : Left → Type 0
 TellsResumed left = extra_in left ≡ Some (Extra.Resumed (length (end_in left).base))

@@ -15,6 +15,6 @@ TakesAll bytes front text = (front ≡ Front.Nothing) × (text ≡ bytes)
 abbrev pub BeginsWithNothing : List Entry → Type 0
 BeginsWithNothing base = base ≡ []
 
--- an engine makes it, and the command has nothing of its own
+-- an engine makes the run, and the command adds nothing
 abbrev pub HasNothing : Left → Type 0
 HasNothing left = extra_in left ≡ Some Extra.Nothing

@@ -11,7 +11,7 @@ use Rattle.ame_app.specs.declared.left.Left.{Left}
 use Rattle.ame_app.specs.declared.status.Status.{Status}
 use Rattle.ame_app.specs.Left.{end_in, extra_in}
 
--- An engine makes it, and the report has what each pick did, which tells turns and entries of the run. The picks are those of a strategy
+-- An engine makes the run, and the report has what each pick did, which fits turns and entries of the run. The picks are those of a strategy
 -- that was asked, before each, who may be picked after the picks before it.
 pub record IsPicked (strategy : List (List ℕ) → List ℕ) (seats : ℕ) (left : Left) : Type 0 where
   pub mades : List Made
@@ -20,7 +20,7 @@ pub record IsPicked (strategy : List (List ℕ) → List ℕ) (seats : ℕ) (lef
   pub later : List (List ℕ) → List ℕ
   pub answers : PicksSeats strategy (questions seats (picks_of mades)) (seats_of (picks_of mades)) later
 
--- what picks did, where the report has it
+-- what picks did, if the report has it
 abbrev pub mades_in : Left → List Made
 mades_in (Left.Engine end (Extra.Picked mades)) = mades
 mades_in _ = []

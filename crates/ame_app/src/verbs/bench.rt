@@ -12,7 +12,7 @@ use crate::verbs::Taken;
 use ame_gen::generate;
 use std::alloc::Global;
 
-/// The text is that of a seed and a size.
+/// Generates the text of a seed and a size. No source is read.
 pub(crate) fn take(alloc: Global, seed: u32, size: u32) -> Result<Taken, Status>
     requires seed { IsInBounds seeds seed }
     requires size { IsInBounds sizes size }

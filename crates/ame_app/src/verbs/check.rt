@@ -1,4 +1,4 @@
-//! `check`: a source that is a certificate, and what is told of it without a run.
+//! `check`: a source that is a certificate, judged without a run.
 
 ghost use Rattle.std.specs.Prelude.{◌≡◌, ◌==◌, ◌≤◌, ◌⊎◌, All, IfOk, IfErr, count_by, length, vec_len};
 ghost use Rattle.std.specs.Arc.{arc_value};
@@ -19,7 +19,7 @@ use ame_term::NoMemory;
 use std::alloc::Global;
 use std::sync::Arc;
 
-/// The journal before the first line `program`, and the text behind it.
+/// Splits the bytes at the first line `program`, into the journal before it and the text after it.
 pub(crate) fn take(alloc: Global, bytes: &[u8]) -> Result<Taken, Status>
     requires most { length bytes.now ≤ READ_LIMIT }
     ensures takes { IfOk result (λ taken. TakesCertificate bytes.now taken.front taken.text.items) }
@@ -42,7 +42,7 @@ pub(crate) fn take(alloc: Global, bytes: &[u8]) -> Result<Taken, Status>
     }
 }
 
-/// How many line feeds there are.
+/// Counts line feeds.
 fn feeds(bytes: &[u8]) -> usize
     ensures value { result ≡ count_by (λ b. b == 10) bytes.now }
     ensures within { result ≤ length bytes.now }
@@ -50,7 +50,7 @@ fn feeds(bytes: &[u8]) -> usize
     bytes.iter().filter(|b| **b == b'\n').count()
 }
 
-/// The entries of the journal before a text.
+/// Returns the entries of the journal before a text; none if no journal stands there.
 pub(crate) fn entries_before(front: &Front) -> &[Entry]
     ensures entries { result.now ≡ entries_before front.now }
     ensures fit { All IsFit result.now }
@@ -61,7 +61,7 @@ pub(crate) fn entries_before(front: &Front) -> &[Entry]
     }
 }
 
-/// What is told of a journal of a program: the lines that it prints, and that it is valid; or why not.
+/// Judges a journal of a program: returns the lines that a valid one prints, or the first entry that can't be made and why.
 pub(crate) fn settle(alloc: Global, code: &Arc<Code>, front: &Front) -> Result<Settled, NoMemory>
     ensures { IfOk result (λ s. TellsOfJournal (program_of (arc_value code.now)) (entries_before front.now) s.ahead.items s.own s.told) }
 {

@@ -21,7 +21,7 @@ use ame_sim::{Listed, ScheduleFault, read_schedule};
 use std::alloc::Global;
 use std::sync::Arc;
 
-/// The picks of the schedule, and the text behind it.
+/// Splits the bytes into the picks of a schedule and the text after it.
 pub(crate) fn take(alloc: Global, bytes: &[u8]) -> Result<Taken, Status>
     ensures takes { IfOk result (λ taken. TakesScheduled bytes.now taken.front taken.text.items) }
     ensures small { IfOk result (λ taken. vec_len taken.text ≤ length bytes.now) }
@@ -40,7 +40,7 @@ pub(crate) fn take(alloc: Global, bytes: &[u8]) -> Result<Taken, Status>
     }
 }
 
-/// Runs code on one thread, with the picks that stand before its text. Where none stand there, nothing is begun.
+/// Runs code on one thread, with the picks of the schedule before its text. Begins nothing if there is no schedule.
 pub(crate) fn run<K, D>(
     alloc: Global,
     code: &Arc<Code>,

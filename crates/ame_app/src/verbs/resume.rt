@@ -38,7 +38,7 @@ use std::alloc::Global;
 use std::sync::{Arc, Wait};
 use std::thread::Threads;
 
-/// The entries that are no notes.
+/// Returns a copy of the entries without the notes.
 pub(crate) fn acts_of(alloc: Global, entries: &[Entry]) -> Result<Journal, NoMemory>
     requires fit { All IsFit entries.now }
     ensures { IfOk result (λ acts. acts.entries ≡ without_notes entries.now) }
@@ -54,15 +54,15 @@ pub(crate) fn acts_of(alloc: Global, entries: &[Entry]) -> Result<Journal, NoMem
     Ok(acts)
 }
 
-/// How many entries are no notes.
+/// Counts the entries that are no notes.
 fn acts_among(entries: &[Entry]) -> usize
     ensures { result ≡ length (without_notes entries.now) }
 {
     entries.iter().filter(|entry| !entry.kind.is_note()).count()
 }
 
-/// What is told of a journal whose entry at a place, from 1, passes a form that would become too high a value: its place without the
-/// notes, unless it is one itself. That is want of memory, since no run goes on from it.
+/// Refuses a journal whose entry at a place, from 1, passes a form whose value would be nested too deeply. The status counts the entries
+/// without the notes. If that entry is itself a note, no run goes on from it, and the error is `NoMemory`.
 fn tall(alloc: Global, front: &Front, options: Options, place: u64) -> Result<Outlook, NoMemory>
     requires place { IsPlace (entries_in front.now) place }
     ensures { IfOk result (λ outlook. (code : FlatCode) → IsTallAt (program_of code) (entries_in front.now) place
@@ -79,7 +79,7 @@ fn tall(alloc: Global, front: &Front, options: Options, place: u64) -> Result<Ou
     }
 }
 
-/// An engine that goes on from entries that are no notes and lead to a state.
+/// Opens an engine that goes on from entries that are no notes and lead to a state.
 fn engine_on(
     alloc: Global,
     code: &Arc<Code>,
@@ -100,7 +100,7 @@ fn engine_on(
     Engine::<Fragment>::resume(alloc, code, limits, base)
 }
 
-/// An engine that goes on from a journal that leads to a state, without its notes; or which of its entries is too far for one.
+/// Opens an engine that goes on from a valid journal without its notes, or reports the first entry that is too far for an engine.
 fn go_on(
     alloc: Global,
     code: &Arc<Code>,
@@ -123,7 +123,7 @@ fn go_on(
     }
 }
 
-/// An engine that goes on from the journal before a text, or what is told of a journal from which none can.
+/// Opens an engine that goes on from the journal before a text, or reports why none can.
 pub(crate) fn settle(
     alloc: Global,
     code: &Arc<Code>,

@@ -23,7 +23,7 @@ use std::alloc::Global;
 use std::sync::{Arc, Wait};
 use std::thread::Threads;
 
-/// All bytes are the text.
+/// Takes all bytes as the text.
 pub(crate) fn take(bytes: Vec<u8>) -> Taken
     ensures takes { TakesAll bytes.items result.front result.text.items }
     ensures same { result.text ≡ bytes }

@@ -30,7 +30,7 @@ use arrayvec::ArrayVec;
 use std::alloc::Global;
 use std::sync::Arc;
 
-/// How many signs are written at a time.
+/// The number of signs that are written at a time.
 const PIECE: usize = 64;
 
 /// Runs code on one thread, by as many seats as the options have workers.
@@ -135,7 +135,7 @@ fn write_signs<K: Sink>(sink: &mut K, picks: &[Picked]) -> Result<(), WriteFault
     Ok(())
 }
 
-/// The signs of some picks.
+/// Returns the signs of at most 64 picks.
 fn signs_of(picks: &[Picked]) -> ArrayVec<u8, PIECE>
     requires seats { All (λ pick. pick.seat < 32) picks.now }
     requires few { length picks.now ≤ PIECE }

@@ -1,4 +1,4 @@
--- What is written so far. Each turn leaves fewer picks.
+-- The signs written so far are those of the picks so far. Each turn leaves fewer picks.
 use Rattle.std.proofs.Common.{◌≡◌, ◌-◌, ◌≤◌, length, take}
 use Rattle.std.specs.Io.KnownBytes.{Appends}
 use Rattle.ame_app.proofs.PickLemmas.{signs_picked}

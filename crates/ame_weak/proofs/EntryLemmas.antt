@@ -20,12 +20,12 @@ use Rattle.ame_journal.proofs.UnfoldLemmas.{entry-back}
 use Rattle.ame_weak.specs.Straight.{ran, freed, arrival_where, came_where}
 use Rattle.ame_weak.proofs.HeldSteps.{if-gave, map-gave}
 
--- an entry, and those behind it
+-- an entry, and those after it
 pub replay-next : (r s t : Replayed) (entry : Entry) (entries : List Entry) → replay_entry r entry ≡ Some s → replay_from s entries ≡ Some t
     → replay_from r (entry ∷ entries) ≡ Some t
 replay-next r s t entry entries first rest = ap (λ (o : Option Replayed). option_and_then (λ z. replay_from z entries) o) first ∙ rest
 
--- who makes a step under `unprotected` stands there
+-- a member that makes a step under `unprotected` stands there
 pub free-stands : (j : ℕ) (kind : StepKind) (s t : State) → after s (Label.Free j kind) ≡ Some t → is_at_unprotected j s ≡ true
 free-stands j kind s t e =
     let x = free-reduced kind j s t e in
@@ -35,7 +35,7 @@ closed-focus : (f : Focus) (v : Val) → closed_value f ≡ Some v → at_unprot
 closed-focus (Focus.AtRedex Side.Protected (Tree.Unprotected (Tree.Held w))) v e = refl
 closed-focus _ v e = cc
 
--- and so does who closes
+-- a member that closes stands there, too
 pub close-stands : (j : ℕ) (s t : State) → after s (Label.Close j) ≡ Some t → is_at_unprotected j s ≡ true
 unfolding after
 close-stands j s t e =
@@ -46,11 +46,11 @@ close-stands j s t e =
 itself : (n : ℕ) → (n == n) ≡ true
 itself n = grind arith
 
--- who has come in is inside
+-- a member that has entered is inside
 now-inside : (r : Replayed) (j : ℕ) → is_inside (entering r j r.state) j ≡ true
 now-inside r j = ap (λ (b : Bool). b || is_inside r j) (itself j)
 
--- a state, and who is inside
+-- a state, and the members inside
 abbrev pub with_inside : State → List ℕ → Replayed
 with_inside s inside = record { state = s; inside = inside }
 
@@ -71,11 +71,11 @@ module _ (r : Replayed) (j : ℕ) (t : State) where
       (Unfolds.closes [] 0 [] t inside (record { count = refl; made = refl; answered = refl })
       (run-one q.state t (Label.Close j) (ap (λ (s : State). after s (Label.Close j)) same ∙ e)))
 
-  -- the entry by which a member comes in
+  -- the entry by which a member enters
   comes-in : is_inside r j ≡ false → is_at_unprotected j r.state ≡ true → replay_entry r (ran j 0 []) ≡ Some (entering r j r.state)
   comes-in outside stands = entry-back r (ran j 0 []) [] (entering r j r.state) (Unfolds.arrives outside stands)
 
-  -- where an entry of a member leads that has come in
+  -- the state to which an entry leads, of a member that has entered
   abbrev Leads : Bool → Entry → (Replayed → Replayed) → Type 0
   Leads b entry to = replay_from r (arrival_where b j ++ entry ∷ []) ≡ Some (to (with_inside r.state (came_where b r.inside j)))
 
@@ -100,7 +100,7 @@ module _ (r : Replayed) (j : ℕ) (t : State) where
 
   -- Calls
 
-  -- an entry that comes to its end says what it says, and no more
+  -- an entry that comes to its end adds its own calls only
   last-none : (k : ℕ) (xs : List (ℤ × ℤ)) (o : Option Replayed) → xs ++ of_next (λ z. device_calls_from k z []) o ≡ xs
   last-none k xs None = append-nil xs
   last-none k xs (Some z) = append-nil xs

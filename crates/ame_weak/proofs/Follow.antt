@@ -31,7 +31,7 @@ use Rattle.ame_weak.proofs.LetGo.{let_go-is}
 use Rattle.ame_weak.proofs.WayLemmas.{IsUnderWay, way-begun, number-below, way-step, way-free, way-close}
 use Rattle.ame_weak.proofs.EntryLemmas.{with_inside, replay-next, free-replayed, close-replayed, free-called, close-called, ran-calls}
 
--- The entries of the labels so far lead to r: with nothing active the weak state is its state, and else it is
+-- The entries of the labels so far lead to r. With nothing active, the weak state is its state; otherwise it is
 -- under way over it.
 pub record IsFollowed (signature : Signature) (r : Replayed) (p : Place) (w : Weak) : Type 0 where
   pub calm : IsCalm r
@@ -54,7 +54,7 @@ both-true : (a b : Bool) → (a && b) ≡ true → (a ≡ true) × (b ≡ true)
 both-true true b e = (refl, e)
 both-true false b e = cc
 
--- who rests while another member is active is another one
+-- a member that rests while another is active is not that one
 rests-other : (o : Option ℕ) (i j : ℕ) → o ≡ Some i → is_resting o j ≡ true → j ≡ i → ⊥
 rests-other o i j is rests same =
     let told : not (i == j) ≡ true = ap (λ (z : Option ℕ). is_resting z j) (sym is) ∙ rests in
@@ -169,7 +169,7 @@ module _ (signature : Signature) (r : Replayed) (p : Place) (calm : IsCalm r) (c
     value-stands true x y e = refl
     value-stands false x y e = cc
 
-    -- who ends is a value
+    -- a member that ends is a value
     ends-at : (y : State) → after w.state Label.End ≡ Some y → at_value (focus u.place.term) ≡ true
     unfolding after
     ends-at y e =

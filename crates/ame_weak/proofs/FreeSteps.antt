@@ -1,4 +1,4 @@
--- What unprotected code does in a weak state it does in the state below the run that is laid over, too.
+-- Steps of unprotected code in a weak state are also made in the state below the run that is laid over.
 use Rattle.std.proofs.Common.{◌≡◌, ℕ, ◌+◌, ◌<◌, ◌++◌, ◌⊎◌, inl, inr, Bool, true, false, List, [], ◌∷◌, Option, Some, None, is_some, option_map, option_and_then, if◌then◌else◌, refl, sym, ap, ◌∙◌, subst, arith}
 use Rattle.std.proofs.lemmas.Option.{option_and_then_some}
 use Rattle.std.specs.List.{AllByRecursion}
@@ -78,7 +78,7 @@ record IsFreeActed (s : State) (i : ℕ) (p : LocalState) (w : Weak) (act : Act)
   pub stays : at below.members i ≡ at s.members i
   pub active : below.active ≡ s.active
 
--- What unprotected code made of a weak state is over what it makes of the state below.
+-- The weak state after a step of unprotected code is laid over the state below after that step.
 pub record IsBelow (s : State) (i : ℕ) (p : LocalState) (w : Weak) (v below : State) : Type 0 where
   pub laid : IsLaid below i p (moved w v)
   pub agrees : AgreesWith below.store p
@@ -131,7 +131,7 @@ module _ (signature : Signature) (cells : StoreTyping) (s : State) (i : ℕ) (p 
       by (inl k) = inr (ap (at p.sets) (sym k.0) ∙ unset)
       by (inr k) = inl k.1
 
-  -- what unprotected code reads and writes the run hasn't touched
+  -- the run hasn't touched what unprotected code reads and writes
   sorted-free : (l : ℕ) (t : Typ) (sort : Sort) → cells l ≡ Some (sort, t) → code_of sort ≡ Effect.Unprotected → IsUntouched l p
   sorted-free l t Sort.Unprotected is code = untouched l t is
   sorted-free l t Sort.Protected is code = cc

@@ -23,7 +23,7 @@ use Rattle.ame_machine.proofs.Run.EffectLemmas.{stored-put}
 use Rattle.ame_weak.specs.Weak.{Weak, moved, held_performed, held_at, held_rewritten, held_step}
 use Rattle.ame_weak.proofs.Laid.{IsLaid}
 
--- What a step of the active member tells of the weak state before it and after it.
+-- A step of the active member of a weak state: its term, its redex, what that becomes, and the weak state after it.
 pub record IsHeldReduced (kind : StepKind) (i : ℕ) (w v : Weak) : Type 0 where
   pub term : Tree
   pub redex : Tree

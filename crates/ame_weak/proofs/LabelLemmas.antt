@@ -30,7 +30,7 @@ some-of : {X : Type 0} (o : Option X) → (o ≡ None → ⊥) → IsSome o
 some-of None apart = absurd (apart refl)
 some-of (Some x) apart = refl
 
--- the answer of a strong state's step, told in one fact
+-- the answer of a strong state's step, with one clause for all answers
 pub told-in-one : {X : Type 0} (s t : State) (label : Label) (r : Result X StepFail) → OnOk r (after s label ≡ Some t) → ((r ≡ Err Illegal) ↔ (after s label ≡ None)) → OnErr r (t ≡ s)
     → StepsOrStays (after s label) s t r
 told-in-one s t label (Ok x) ok illegal err = ok
@@ -202,7 +202,7 @@ module _ (w : Weak) where
 
   -- Leaving and ending
 
-  -- where nothing is held, nothing is let go
+  -- if nothing is held, nothing takes effect
   no-more : (s : State) → s ≡ record s { output = s.output ++ []; next = s.next + 0 }
   no-more s = let e : s.next ≡ s.next + 0 = omega arith in λ i. record s { output = sym (append-nil s.output) i; next = e i }
 

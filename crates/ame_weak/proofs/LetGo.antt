@@ -1,5 +1,5 @@
--- Where the active fragment leaves or ends, and what it held takes effect, the weak state is the strong
--- one after the fragment's run.
+-- If the active fragment leaves or ends, and what it held takes effect, the weak state is the strong one
+-- after the fragment's run.
 use Rattle.std.proofs.Common.{◌≡◌, ℕ, ◌+◌, ◌<◌, ◌++◌, List, length, None, sym, ap, ◌∙◌, subst}
 use Rattle.ame_term.specs.Tree.{Tree}
 use Rattle.ame_term.specs.Maps.{at}

@@ -1,4 +1,4 @@
--- Within the bounds no value becomes too high, and one that would be is too high by one.
+-- Within the bounds no value is nested too deeply, and one that would be is too high by one.
 use Rattle.std.proofs.Common.{◌≡◌, ℕ, ◌+◌, ◌≤◌, ◌<◌, ℤ, Bool, true, false, List, [], ◌∷◌, ◌++◌, Option, Some, None, is_some, is_none, option_map, option_and_then, if◌then◌else◌, refl, sym, ap, ◌∙◌, subst, arith}
 use Rattle.std.specs.Prelude.{◌==◌, ◌&&◌, ◌||◌, not, nat_lt}
 use Rattle.std.specs.List.{AllByRecursion}
@@ -25,7 +25,7 @@ use Rattle.ame_weak.specs.Weak.{Weak, moved, holds_nothing, weak_start, held_per
 use Rattle.ame_weak.specs.Bounds.{max_frames, is_deeper, is_tall_at, is_beyond, IsTermWithinBounds, IsWithinBounds, AreWithinBounds, grows_tall, is_growing_tall}
 use Rattle.ame_weak.specs.Low.{IsLowState, IsLow}
 
--- What an option that has a value tells.
+-- Options that have a value.
 
 then-gave : {X Y : Type 0} (f : X → Option Y) (o : Option X) (y : Y) → option_and_then f o ≡ Some y → (x : X) × (o ≡ Some x) × (f x ≡ Some y)
 then-gave f None y e = cc
@@ -45,7 +45,7 @@ unless-gave false o y e = e
 
 -- Steps
 
--- what a step makes of a redex and of the state
+-- the results of a step: a redex and a state
 record Leaves (made : Tree × State) : Type 0 where
   term : HoldsLow made.0
   state : IsLowState made.1
@@ -116,11 +116,11 @@ performed_low kind (Act.Calls device n) s made e new low =
 performed_low kind (Act.Closes v) s made e new low = absurd (cc)
 performed_low kind Act.Stuck s made e new low = absurd (cc)
 
--- a redex that makes no value that is too high
+-- a redex that makes no value nested too deeply
 fits : (side : Side) (redex : Tree) → is_tall_at (Focus.AtRedex side redex) ≡ false → value_height redex ≤ max_height
 fits side redex e = ltb-false max_height (value_height redex) e
 
--- what a term's redex does is low, where the term is
+-- if a term is low, so is the act of its redex
 term_act : (t redex : Tree) (side : Side) → focus t ≡ Focus.AtRedex side redex → HoldsLow t → is_tall_at (focus t) ≡ false → IsLowAct (act_of redex)
 term_act t redex side stands low small =
     low-act redex (low-redex t redex side stands low) (fits side redex (subst (λ (f : Focus). is_tall_at f ≡ false) stands small))
@@ -143,7 +143,7 @@ not_tall t e = by (is_deeper max_frames t) (is_tall_at (focus t)) e
     by true b e = cc
     by false b e = e
 
--- a member's term is no redex of a value that is too high, where it is within the bounds
+-- if a member's term is within the bounds, it is no redex of a value nested too deeply
 small_at : (o : Option Tree) (t : Tree) → o ≡ Some t → IsTermWithinBounds o → is_tall_at (focus t) ≡ false
 small_at o t is within = not_tall t (subst IsTermWithinBounds is within)
 

@@ -1,4 +1,4 @@
--- The notes of tries among the entries of labels.
+-- The notes of attempts among the entries of labels.
 use Rattle.std.proofs.Common.{◌≡◌, ℕ, ◌+◌, ◌≤◌, ◌==◌, ◌++◌, Bool, true, false, not, List, [], ◌∷◌, length, map, cond, if◌then◌else◌, refl, ap, ◌∙◌, arith, subst, eqb-true}
 use Rattle.std.proofs.lemmas.List.Elements.{filter-append}
 use Rattle.std.proofs.lemmas.Bool.Decides.{nat_tests}
@@ -40,7 +40,7 @@ none p Label.End = refl
 none p (Label.Free i kind) = free-none (list_any (λ j. j == i) p.inside) i (freed i (fresh_of kind) (device_answer kind)) refl
 none p (Label.Close i) = free-none (list_any (λ j. j == i) p.inside) i (freed i [] None) refl
 
--- a try is one
+-- the note of an attempt is a note
 
 tells : (t : Try) → is_note (note_for t).kind ≡ true
 tells t = by t.failing
@@ -89,7 +89,7 @@ both n (t ∷ ts) = by (t.after == n) (both n ts)
     by true rest = ap (λ (es : List Entry). note_for t ∷ es) rest
     by false rest = refl
 
--- behind the first ones each is made later
+-- each attempt after the first ones is made later
 order-later : (n m : ℕ) (ts : List Try) → AreTriesInOrder n m ts → AreTriesInOrder (n + 1) m (tries_behind n ts)
 order-later n m [] order = tt
 order-later n m (t ∷ ts) order = by (t.after == n) refl (order-later n m ts)

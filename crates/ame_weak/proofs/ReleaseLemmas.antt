@@ -47,7 +47,7 @@ same-next : (b : Bool) (s x t : State) → x.next ≡ s.next → (if b then Some
 same-next true s x t same e = let is : x ≡ t = cc in ap (λ (z : State). z.next) (sym is) ∙ same
 same-next false s x t same e = cc
 
--- who leaves or ends makes no member
+-- a member that leaves or ends makes no member
 pub gone-next : (s t : State) (label : Label) → HasGone label → after s label ≡ Some t → t.next ≡ s.next
 unfolding after
 gone-next s t Label.Leave gone e =
@@ -61,7 +61,7 @@ gone-next s t (Label.Step kind) gone e = absurd gone
 gone-next s t (Label.Free i kind) gone e = absurd gone
 gone-next s t (Label.Close i) gone e = absurd gone
 
--- what is released is the weak state with all in effect
+-- the released state is the weak state with all in effect
 pub released-is : (w : Weak) (s t u v : State) (label : Label) → w.state ≡ s → after s label ≡ Some t → u ≡ printed_all t w.prints → v ≡ all_joined u w.spawns
     → option_map (λ z. with_held_released (moved w z)) (after w.state label) ≡ Some (holding_none v)
 released-is w s t u v label same stepped prints joins =

@@ -19,12 +19,12 @@ use Rattle.ame_weak.specs.Straight.{Place, outset, entries_of_label, past, strai
 use Rattle.ame_weak.proofs.WayLemmas.{IsUnderWay}
 use Rattle.ame_weak.proofs.Follow.{IsFollowed, follow-label}
 
--- where labels have come to
+-- the point after all labels
 abbrev pub past_all : Place → List Label → Place
 past_all p [] = p
 past_all p (label ∷ labels) = past_all (past p label) labels
 
--- The entries of labels lead where they lead, and make the same calls.
+-- The entries of labels lead to the same state as the labels, and make the same calls.
 pub record IsFollowedAlong (signature : Signature) (r : Replayed) (p : Place) (w : Weak) (labels : List Label) (v : Weak) : Type 0 where
   pub behind : Replayed
   pub replays : replay_from r (straight_from p labels) ≡ Some behind

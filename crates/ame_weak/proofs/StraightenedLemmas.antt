@@ -1,4 +1,4 @@
--- What the loop of `straighten` has come to, label by label.
+-- The loop of `straighten`, label by label.
 use Rattle.std.proofs.Common.{◌≡◌, ℕ, ◌+◌, ◌<◌, ◌≤◌, ◌++◌, List, [], ◌∷◌, length, take, drop, get_or, Some, None, option_and_then, refl, sym, ap, ◌∙◌, arith}
 use Rattle.std.proofs.lemmas.Option.{option_and_then_some}
 use Rattle.std.proofs.lemmas.List.{append_assoc, take-append-drop, length-take-le, take_more, take_all, drop_more, drop_all}
@@ -94,7 +94,7 @@ module _ (program : Tree) (labels : List Label) (tries : List Try) where
       notes.added ∙ ap (λ (ls : List Label). t.journal.entries ++ straight_with k ts o.place ls) (sym (drop_all k labels all)) ∙ o.written,
     )
 
--- What the notes that hold bring.
+-- Notes that hold lead to the end, and make the calls.
 
 pub if-ok : {X E : Type 0} (P Q : X → Type 0) → ((x : X) → P x → Q x) → (r : Result X E) → IfOk r P → IfOk r Q
 if-ok P Q more (Ok x) p = more x p

@@ -15,7 +15,7 @@ use Rattle.ame_weak.specs.Tries.{noted_tries, tries_behind}
 use Rattle.ame_weak.specs.declared.transcript.Transcript.{Transcript}
 use Rattle.ame_weak.specs.declared.tries.Try.{Try}
 
--- Some notes of these tries are added, and the rest is to come.
+-- Some notes of these attempts are added, and the rest is to come.
 pub record IsNotedSoFar (n : ℕ) (all rest : List Try) (old new : Transcript) : Type 0 where
   pub added : new.journal.entries ++ noted_tries n rest ≡ old.journal.entries ++ noted_tries n all
   pub others : tries_behind n rest ≡ tries_behind n all
@@ -24,7 +24,7 @@ pub record IsNotedSoFar (n : ℕ) (all rest : List Try) (old new : Transcript) :
   pub steps : new.steps ≡ old.steps
   pub fresh : new.fresh.items ≡ old.fresh.items
 
--- who is inside, when one comes in and when one closes
+-- the members inside, when one enters and when one closes
 
 one-more : (n i : ℕ) (x : Bool) → cond (is_at (nat_cmp n) i) true x ≡ ((n == i) || x)
 one-more n i x = grind (arith, nat_tests)
@@ -59,7 +59,7 @@ stands-left p t n inside s update = record {
   fresh = s.fresh;
 }
 
--- it still stands for a place
+-- the code still keeps the point
 pub stands-same : (p : Place) (entries : List Entry) (old new : Transcript) → AddsEntries entries old new → KeepsPlace p old → KeepsPlace p new
 stands-same p entries old new a s = record {
   inside = λ i. ap (λ (z : BTreeSet ℕ). contains nat_cmp z i) a.inside ∙ s.inside i;

@@ -1,4 +1,4 @@
--- A journal with the notes of tries.
+-- A journal with the notes of attempts.
 use Rattle.std.proofs.Common.{◌≡◌, ℕ, zero, suc, ◌+◌, ◌==◌, ◌++◌, Bool, true, false, List, [], ◌∷◌, length, Option, Some, None, is_some, option_and_then, if◌then◌else◌, refl, sym, ap, ◌∙◌, subst, arith, eqb-true}
 use Rattle.std.proofs.lemmas.Option.{option_and_then_some}
 use Rattle.std.specs.List.{AllByRecursion}
@@ -26,7 +26,7 @@ use Rattle.ame_weak.proofs.EntryLemmas.{replay-next}
 use Rattle.ame_weak.proofs.Follow.{IsFollowed, follow-label}
 use Rattle.ame_weak.proofs.StraightLemmas.{past_all, ends-strong, begun-followed}
 
--- who can run a fragment stands in protected code
+-- a member that can run a fragment stands in protected code
 there-of : (o : Option State) (go : State → Option State) → is_some (option_and_then go o) ≡ true → (a : State) × (o ≡ Some a)
 there-of None go e = cc
 there-of (Some a) go e = (a, refl)
@@ -36,7 +36,7 @@ stands-protected s i n fresh e =
     let a = there-of (after s (Label.Activate i)) (λ t. steps Label.Step i n (locations fresh) t) e in
     ap side_told (activated-resting i s a.0 a.1)
 
--- a try that holds is a note that can be made
+-- an attempt that holds is a note that can be made
 kind-made : (b : Bool) (r : Replayed) (i n : ℕ) (fresh : List ℕ) → (if b then fails_after r.state i n fresh else is_some (fragment i n fresh r.state)) ≡ true
     → replay_kind (if b then EntryKind.Stuck else EntryKind.Cut) r i n fresh None ≡ Some r
 kind-made true r i n fresh holds = ap (λ (x : Bool). note_where x r) holds
@@ -56,7 +56,7 @@ no-call k i n r t entries count made = by t.certificate.steps ∙ ap (of_next (�
     by zero = refl
     by (suc m) = refl
 
--- a try from here, where n labels were made
+-- an attempt holds from a point on that n labels have reached
 abbrev IsTriedFrom : ℕ → Weak → List Label → Try → Type 0
 IsTriedFrom n w labels t = (front rest : List Label) (v : Weak) → labels ≡ front ++ rest → n + length front ≡ t.after → weak_run w front ≡ Some v → HoldsIn v t
 
@@ -68,7 +68,7 @@ tried-behind n w x label labels t first tried = λ front rest v is count run.
     let more : n + suc (length front) ≡ t.after = omega arith in
     tried (label ∷ front) rest v (ap (λ (ls : List Label). label ∷ ls) is) more (ap (option_and_then (λ z. weak_run z front)) first ∙ run)
 
--- what holds of all tries holds of the later ones
+-- a fact of all attempts holds of the later ones
 later-all : (P Q : Try → Type 0) → ((t : Try) → P t → Q t) → (n : ℕ) (ts : List Try) → AllByRecursion P ts → AllByRecursion Q (tries_behind n ts)
 later-all P Q f n [] all = tt
 later-all P Q f n (t ∷ ts) all = by (t.after == n) (later-all P Q f n ts all.1)

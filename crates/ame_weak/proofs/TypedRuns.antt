@@ -33,7 +33,7 @@ use Rattle.ame_weak.proofs.StraightLemmas.{past_all, follow-labels, begun-follow
 itself-not : (n : ℕ) → nat_cmp n n ≡ Less → ⊥
 itself-not n e = let below : n < n = lt-from_less n n e in absurd (omega arith)
 
--- what holds of each entry that is found holds of all
+-- a fact of each entry that is found holds of all
 each-found : {X : Type 0} (P : X → Type 0) (es : List (ℕ × X)) → NumbersRise es → ((n : ℕ) (x : X) → at es n ≡ Some x → P x) → AllByRecursion (λ e. P e.1) es
 unfolding IsStrictlySortedBy
 each-found P [] rise all = tt

@@ -28,7 +28,7 @@ use Rattle.ame_weak.proofs.Laid.{IsLaid, IsUntouched, IsApart, HasSetMade, unsee
 use Rattle.ame_weak.proofs.HeldSteps.{if-gave, held-step}
 use Rattle.ame_weak.proofs.FreeSteps.{ChangesApart, IsBelow, free-below, close-below}
 
--- Over the state s, where nothing is active, member i is active in w after n steps with these new locations.
+-- Over the state s, in which nothing is active, member i is active in w after n steps with these new locations.
 pub record IsUnderWay (signature : Signature) (s : State) (i n : ℕ) (fresh : List ℕ) (w : Weak) : Type 0 where
   pub cells : StoreTyping
   pub typed : IsTyped signature cells s

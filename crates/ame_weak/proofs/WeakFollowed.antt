@@ -1,4 +1,4 @@
--- `weak_after` follows the weak rules, and `weak_run` leads where they lead.
+-- `weak_after` follows the weak rules, and `weak_run` leads to the same state as these.
 use Rattle.std.proofs.Common.{◌≡◌, ◌≢◌, ◌↔◌, ℕ, ◌+◌, ◌==◌, ◌++◌, ℤ, Bool, true, false, not, List, [], ◌∷◌, length, Option, Some, None, option_map, option_and_then, refl, sym, ap, ◌∙◌, subst, arith, eqb-true}
 use Rattle.std.proofs.lemmas.Option.{option_and_then_some}
 use Rattle.std.specs.Prelude.{◌&&◌}
@@ -25,7 +25,7 @@ use Rattle.ame_weak.specs.WeakRules.{Joins, Releases, WeakRule, WeakBegins, Weak
 use Rattle.ame_weak.proofs.HeldSteps.{if-gave, map-gave, held-reduced}
 use Rattle.ame_weak.proofs.LabelLemmas.{activate-free, step-active, free-may, close-may, plain-step, print-some, spawn-some, leave-is, end-is}
 
--- What is held
+-- Held effects
 
 none-held : (prints : List ℤ) (spawns : List Tree) → holds_none prints spawns ≡ true → (prints ≡ []) × (spawns ≡ [])
 none-held [] [] e = (refl, refl)
@@ -62,7 +62,7 @@ released-by w s v r =
       spawns = sym r.no_spawns i;
     }
 
--- Who rests
+-- Resting members
 
 itself : (n : ℕ) → (n == n) ≡ true
 itself n = grind arith
@@ -106,7 +106,7 @@ both-true false b e = cc
 true-both : (a b : Bool) → a ≡ true → b ≡ true → (a && b) ≡ true
 true-both a b p q = ap (λ x. x && b) p ∙ q
 
--- What is held of a step
+-- Held effects of a step
 
 print-made : (act : Act) → makes Side.Protected StepKind.Print act ≡ true → (n : ℤ) × (act ≡ Act.Prints n)
 print-made (Act.Prints n) e = (n, refl)
@@ -144,7 +144,7 @@ spawn-form s _ _ _ _ _ (Reduces.printing side n) body is kind = cc
 spawn-form s _ _ _ _ _ Reduces.passing body is kind = cc
 spawn-form s _ _ _ _ _ (Reduces.answering device m reply) body is kind = cc
 
--- The rule of what is legal
+-- From legal labels to rules
 
 plain-not : (kind : StepKind) → kind ≢ StepKind.Print → kind ≢ StepKind.Spawn → IsPlain kind
 plain-not StepKind.Print p s = absurd (p refl)
@@ -270,7 +270,7 @@ module _ (w v : Weak) where
       let m = map-gave (moved w) (closed i w.state) v b.1 in
       close-rule i (resting-other w.state.active i b.0) m.0 m.1 m.2
 
--- And back
+-- From rules to legal labels
 
 held-at : (w : Weak) (i : ℕ) (frames : List Frame) (redex : Tree) (found_at : at w.state.members i ≡ Some (plug_all frames redex))
     → fill (plug_all frames redex) unit_tree ≡ plug_all frames unit_tree → refilled w.state.members i unit_tree ≡ change w.state.members i (plug_all frames unit_tree)

@@ -1,5 +1,5 @@
--- The journal of a weak run, a function of its labels alone. Each unprotected label is an entry of its own;
--- those that were made while a fragment was active stand before the fragment's entry.
+-- The journal of a weak run, a function of its labels alone. Each unprotected label is an entry of its own. The labels made
+-- while a fragment was active come before the fragment's entry.
 use Rattle.std.specs.Prelude.{ℕ, ◌+◌, ◌==◌, ℤ, Bool, true, false, not, List, [], ◌∷◌, ◌++◌, filter, Option, None}
 use Rattle.std.specs.List.{list_any}
 use Rattle.ame_term.specs.Act.{device_answer}
@@ -8,15 +8,15 @@ use Rattle.ame_journal.specs.declared.entry.Entry.{Entry}
 use Rattle.ame_journal.specs.declared.entry.EntryKind.{EntryKind}
 use Rattle.ame_journal.specs.Labels.{fresh_of}
 
--- Where the labels have come to: the members that are inside `unprotected` by the entries so far; and of the
--- fragment that is active, if one is, its member, its steps and its new locations, in order.
+-- The point that labels have reached: the members inside `unprotected` by the entries so far, and the member, steps and new locations, in
+-- order, of the active fragment, if there is one.
 pub record Place : Type 0 where
   pub inside : List ℕ
   pub number : ℕ
   pub steps : ℕ
   pub fresh : List ℕ
 
--- before the first label
+-- the point before the first label
 abbrev pub outset : Place
 outset = record { inside = []; number = 0; steps = 0; fresh = [] }
 
@@ -34,7 +34,7 @@ abbrev pub arrival_where : Bool → ℕ → List Entry
 arrival_where true i = []
 arrival_where false i = ran i 0 [] ∷ []
 
--- a member that isn't inside yet comes in by a fragment of no steps
+-- a member that isn't inside yet enters by a fragment of no steps
 abbrev pub arrival : List ℕ → ℕ → List Entry
 arrival inside i = arrival_where (list_any (λ j. j == i) inside) i
 
@@ -51,11 +51,11 @@ abbrev pub came_where : Bool → List ℕ → ℕ → List ℕ
 came_where true inside i = inside
 came_where false inside i = i ∷ inside
 
--- who is inside when a member has come in
+-- the members inside after a member has entered
 abbrev pub came : List ℕ → ℕ → List ℕ
 came inside i = came_where (list_any (λ j. j == i) inside) inside i
 
--- where the labels have come to with one more
+-- the point after one more label
 abbrev pub past : Place → Label → Place
 past p (Label.Activate i) = record { inside = p.inside; number = i; steps = 0; fresh = [] }
 past p (Label.Step kind) = record p { steps = p.steps + 1; fresh = p.fresh ++ fresh_of kind }
@@ -64,7 +64,7 @@ past p Label.End = p
 past p (Label.Free i kind) = record p { inside = came p.inside i }
 past p (Label.Close i) = record p { inside = filter (λ j. not (j == i)) (came p.inside i) }
 
--- the entries of labels from here
+-- the entries of labels from this point on
 abbrev pub straight_from : Place → List Label → List Entry
 straight_from p [] = []
 straight_from p (label ∷ labels) = entries_of_label p label ++ straight_from (past p label) labels

@@ -1,4 +1,4 @@
--- What `straighten` answers.
+-- Answers of `straighten`.
 use Rattle.std.specs.Prelude.{◌≡◌, ℕ, ◌+◌, ◌==◌, List, [], ◌∷◌, ◌++◌, length, map, Option, Some, None, ⊤}
 use Rattle.std.specs.List.{list_any}
 use Rattle.std.specs.BTreeSet.{contains}
@@ -33,8 +33,8 @@ pub record EndsActive (program : Tree) (labels : List Label) (who : Option ℕ) 
   pub leads : IsWeakRun program labels weak
   pub active : weak.state.active ≡ who
 
--- What an answer tells: the entries of the labels with the notes of the tries, where nothing is active at
--- their end; the first label without a rule; or who is active at the end.
+-- An answer is the entries of the labels with the notes of the attempts, if nothing is active at their end; otherwise the first label without
+-- a rule, or the member that is active at the end.
 abbrev pub IsStraightened : Tree → List Label → List Try → Straight → Type 0
 IsStraightened program labels tries (Straight.Journal journal) = EndsActive program labels None × (journal.entries ≡ straight_with 0 tries outset labels)
 IsStraightened program labels tries (Straight.Illegal n) = IsFirstIllegal program labels n
@@ -59,21 +59,21 @@ abbrev pub LeadsToTheEnd : Tree → List Label → Straight → Type 0
 LeadsToTheEnd program labels (Straight.Journal journal) = LeadTogether program labels journal.entries
 LeadsToTheEnd program labels _ = ⊤
 
--- and it makes their calls of each device
+-- a journal makes the calls that the labels make of each device
 abbrev pub MakesTheCalls : Tree → List Label → Straight → Type 0
 MakesTheCalls program labels (Straight.Journal journal) = (k : ℕ) → device_calls k program journal.entries ≡ weak_calls k (weak_start program) labels
 MakesTheCalls program labels _ = ⊤
 
 -- The code's journal so far
 
--- what it keeps of where the labels have come to; who is inside is told by look-up
+-- the code keeps the point that labels have reached; it finds by look-up who is inside
 pub record KeepsPlace (p : Place) (t : Transcript) : Type 0 where
   pub inside : (i : ℕ) → contains nat_cmp t.inside i ≡ list_any (λ j. j == i) p.inside
   pub number : t.number ≡ p.number
   pub steps : t.steps ≡ p.steps
   pub fresh : map (λ l. l.0) t.fresh.items ≡ p.fresh
 
--- entries are added, and no more
+-- entries are added, and nothing else changes
 pub record AddsEntries (entries : List Entry) (old new : Transcript) : Type 0 where
   pub added : new.journal.entries ≡ old.journal.entries ++ entries
   pub inside : new.inside ≡ old.inside
@@ -81,12 +81,12 @@ pub record AddsEntries (entries : List Entry) (old new : Transcript) : Type 0 wh
   pub steps : new.steps ≡ old.steps
   pub fresh : new.fresh.items ≡ old.fresh.items
 
--- a label's entries are added, and it stands for the place behind the label
+-- a label's entries are added, and the code keeps the point after the label
 abbrev pub Writes : Label → Transcript → Transcript → Type 0
 Writes label old new = (p : Place) → KeepsPlace p old →
     KeepsPlace (past p label) new × (new.journal.entries ≡ old.journal.entries ++ entries_of_label p label)
 
--- a member comes in, if it isn't inside
+-- a member enters, if it isn't inside
 abbrev pub Arrives : ℕ → Transcript → Transcript → Type 0
 Arrives i old new = (p : Place) → KeepsPlace p old →
     KeepsPlace (record p { inside = came p.inside i }) new × (new.journal.entries ≡ old.journal.entries ++ arrival p.inside i)

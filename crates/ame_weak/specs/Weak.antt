@@ -20,7 +20,7 @@ pub record Weak : Type 0 where
   pub prints : List ℤ
   pub spawns : List Tree
 
--- a state of which nothing is held back
+-- a state whose fragment holds nothing back
 abbrev pub holding_none : State → Weak
 holding_none s = record { state = s; prints = []; spawns = [] }
 
@@ -32,11 +32,11 @@ abbrev pub holds_none : List ℤ → List Tree → Bool
 holds_none [] [] = true
 holds_none _ _ = false
 
--- whether nothing is held back
+-- says if nothing is held back
 abbrev pub holds_nothing : Weak → Bool
 holds_nothing w = holds_none w.prints w.spawns
 
--- where a program begins
+-- the weak state in which a program begins
 abbrev pub weak_start : Tree → Weak
 weak_start program = holding_none (start program)
 
@@ -48,7 +48,7 @@ held_performed kind (Act.Spawns body) w = Some (unit_tree, record w { spawns = w
 held_performed kind (Act.Prints n) w = Some (unit_tree, record w { prints = w.prints ++ n ∷ [] })
 held_performed kind act w = option_map (λ made. (made.0, moved w made.1)) (performed kind act w.state)
 
--- what the redex of a term becomes in protected code, and the weak state after it
+-- the result of a term's redex in protected code, and the weak state after it
 abbrev pub held_at : StepKind → Focus → Weak → Option (Tree × Weak)
 held_at kind (Focus.AtValue v) w = None
 held_at kind (Focus.AtRedex under redex) w =
@@ -71,23 +71,23 @@ with_output s output = record s { output = output }
 abbrev pub all_joined : State → List Tree → State
 all_joined s bodies = record s { members = with_members s.members s.next bodies; next = s.next + length bodies }
 
--- What is held takes effect: prints stand behind the output, and new members get the next numbers in order.
+-- The effects that are held take place: prints come after the output, and new members get the next numbers in order.
 abbrev pub with_held_released : Weak → Weak
 with_held_released w = holding_none (all_joined (with_output w.state (w.state.output ++ w.prints)) w.spawns)
 
 -- Labels
 
--- whether a member rests, though another one may be active
+-- says if a member rests, though another one may be active
 abbrev pub is_resting : Option ℕ → ℕ → Bool
 is_resting None i = true
 is_resting (Some j) i = not (j == i)
 
--- whether unprotected code may make a step of a kind: it doesn't peek while a fragment is active
+-- says if unprotected code may make a step of a kind: it doesn't peek while a fragment is active
 abbrev pub may_free : Option ℕ → StepKind → Bool
 may_free (Some j) StepKind.Peek = false
 may_free _ kind = true
 
--- The weak state after a label, where it is legal.
+-- The weak state after a label, if the label is legal.
 unfoldable pub weak_after : Weak → Label → Option Weak
 weak_after w (Label.Activate i) = if holds_nothing w then option_map (moved w) (after w.state (Label.Activate i)) else None
 weak_after w (Label.Step kind) = option_and_then (λ i. held_step kind i w) w.state.active

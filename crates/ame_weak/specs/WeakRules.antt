@@ -1,6 +1,6 @@
--- The rules of the weak semantics, a constructor for each case. With `weak_after`, which computes the same, they
--- share trees, frames, labels and the records of the two states, and none of its functions. `Rule` and `Steps`
--- are those of the strong semantics; `Steps` doesn't say who is active.
+-- The rules of the weak semantics, a constructor for each case. They share trees, frames, labels and the records of the two states with
+-- `weak_after`, which computes the same, and no function. `Rule` and `Steps` are those of the strong semantics; `Steps` doesn't say who
+-- is active.
 use Rattle.std.specs.Prelude.{◌≡◌, ◌≢◌, ℕ, ◌+◌, ℤ, List, [], ◌∷◌, ◌++◌, Some, None}
 use Rattle.std.specs.Map.{lookup, set_value}
 use Rattle.std.specs.BTreeMap.{insert_entry, is_at}
@@ -20,8 +20,8 @@ pub data Joins : List (ℕ × Tree) → ℕ → List Tree → List (ℕ × Tree)
   more : (members later : List (ℕ × Tree)) (next end : ℕ) (body : Tree) (bodies : List Tree)
       → Joins (insert_entry nat_cmp members next body) (next + 1) bodies later end → Joins members next (body ∷ bodies) later end
 
--- What a fragment held takes effect in the state s that it leaves: its prints stand behind the output, and
--- its members join. Nothing is held then.
+-- The effects that a fragment held take place in the state s that it leaves: its prints come after the output, and its members join. Nothing
+-- is held then.
 pub record Releases (s : State) (prints : List ℤ) (spawns : List Tree) (v : Weak) : Type 0 where
   pub store : v.state.store ≡ s.store
   pub active : v.state.active ≡ s.active
@@ -30,9 +30,9 @@ pub record Releases (s : State) (prints : List ℤ) (spawns : List Tree) (v : We
   pub no_prints : v.prints ≡ []
   pub no_spawns : v.spawns ≡ []
 
--- The rules. A member becomes active where nothing is held. A print of the active member and a new member that
--- it makes are held, and the rest of its steps are as in the strong semantics. While it is active each other
--- member makes its steps under `unprotected` and closes, but that nobody peeks.
+-- The rules. A member becomes active if nothing is held. A print of the active member and a new member that it makes are held; its other
+-- steps are as in the strong semantics. While it is active, each other member may make its steps under `unprotected`, and close, but not
+-- peek.
 pub data WeakRule (w : Weak) : Label → Weak → Type 0 where
   activates : (i : ℕ) (s : State) → w.prints ≡ [] → w.spawns ≡ [] → Rule w.state (Label.Activate i) s → WeakRule w (Label.Activate i) (record w { state = s })
   steps : (i : ℕ) (kind : StepKind) (s : State) → w.state.active ≡ Some i → kind ≢ StepKind.Print → kind ≢ StepKind.Spawn

@@ -13,7 +13,7 @@ use ame_strong::StepFail;
 use ame_term::{Accepted, Label, NoMemory, copy_term};
 use std::alloc::Global;
 
-/// What the labels of a weak run come to.
+/// The result of straightening the labels of a weak run.
 #[derive(Drop)]
 pub enum Straight {
     /// Nothing is active at the end: the strong run that has the same end.
@@ -24,18 +24,18 @@ pub enum Straight {
     Active(u64),
 }
 
-/// The journal of the labels of a weak run, with the notes of the tries, each in the first seat. Costs what
-/// the labels' steps cost.
+/// Makes the journal of the labels of a weak run, with the notes of the attempts, all in the first seat. Costs
+/// what the labels' steps cost.
 pub fn straighten(
     alloc: Global,
     accepted: &Accepted,
     labels: &[Label],
     tries: &[Try],
 ) -> Result<Straight, NoMemory>
-    // Each answer tells what the labels come to.
+    // Each answer says what the labels come to.
     ensures answer { IfOk result (λ answer. IsStraightened (tree_of accepted.now.program.term) labels.now tries.now answer) }
 
-    // Where the tries hold, a journal leads to the end state of the labels, and makes their calls of devices.
+    // If the attempts hold, a journal leads to the end state of the labels, and makes their calls of devices.
     ensures replays { AreTried (tree_of accepted.now.program.term) labels.now tries.now
         → IfOk result (λ answer. LeadsToTheEnd (tree_of accepted.now.program.term) labels.now answer) }
     ensures calls { AreTried (tree_of accepted.now.program.term) labels.now tries.now
@@ -44,7 +44,7 @@ pub fn straighten(
     told(alloc, accepted, labels, tries)
 }
 
-/// The same, told in one fact.
+/// Straightens labels, with one clause for all answers.
 fn told(
     alloc: Global,
     accepted: &Accepted,

@@ -22,26 +22,26 @@ ghost use Rattle.ame_weak.specs.declared.tries.Try.{Try};
 
 use ame_term::Accepted;
 
-/// A label leads from one weak state to another exactly where a weak rule has it.
+/// Says that a label leads from one weak state to another exactly if a weak rule has it.
 pub fn weak_labels_follow_the_rules()
     ensures { (w v : Weak) (label : Label) → (weak_after w label ≡ Some v) ↔ WeakRule w label v }
 {}
 
-/// `weak_start` is the weak state in which a program begins, and `weak_run` leads where labels lead, each by a
-/// weak rule.
+/// Says that `weak_start` is the weak state in which a program begins, and that `weak_run` leads to the same state as
+/// labels, each by a weak rule.
 pub fn weak_runs_follow_the_rules()
     ensures begins { (program : Tree) (w : Weak) → (w ≡ weak_start program) ↔ WeakBegins program w }
     ensures runs { (w : Weak) (labels : List Label) (v : Weak) → (weak_run w labels ≡ Some v) ↔ WeakRuns w labels v }
 {}
 
-/// A weak run of an accepted program looks strong: where nothing is active at its end, the journal of
-/// its labels leads to the same state, with the same store, members, output and next number.
+/// Says that a weak run of an accepted program looks strong. If nothing is active at its end, the journal of its
+/// labels leads to the same state, with the same store, members, output and next number.
 pub fn weak_runs_straighten(accepted: &Accepted)
     ensures { (labels : List Label) (w : Weak) → IsWeakRun (tree_of accepted.now.program.term) labels w → w.state.active ≡ None →
         (r : Replayed) × (replay (tree_of accepted.now.program.term) (straight labels) ≡ Some r) × (w ≡ holding_none r.state) }
 {}
 
-/// The journal of a weak run makes the calls of devices that the run makes, in the same order and with
+/// Says that the journal of a weak run makes the calls of devices that the run makes, in the same order and with
 /// the same answers.
 pub fn weak_calls_are_told(accepted: &Accepted)
     ensures { (device : ℕ) (labels : List Label) (w : Weak) → IsWeakRun (tree_of accepted.now.program.term) labels w →
@@ -49,15 +49,15 @@ pub fn weak_calls_are_told(accepted: &Accepted)
         ≡ weak_calls device (weak_start (tree_of accepted.now.program.term)) labels }
 {}
 
-/// The same with the notes of fragments that were tried, each where it holds: a journal with them
-/// leads to the same state.
+/// Says that a journal with the notes of attempts leads to the same state, if each attempt holds at its
+/// place.
 pub fn tries_straighten(accepted: &Accepted)
     ensures { (labels : List Label) (tries : List Try) (w : Weak) → AreTried (tree_of accepted.now.program.term) labels tries
         → IsWeakRun (tree_of accepted.now.program.term) labels w → w.state.active ≡ None
         → (r : Replayed) × (replay (tree_of accepted.now.program.term) (straight_with 0 tries outset labels) ≡ Some r) × (w ≡ holding_none r.state) }
 {}
 
-/// And it makes the same calls.
+/// Says that a journal with such notes makes the same calls.
 pub fn calls_are_told_with(accepted: &Accepted)
     ensures { (device : ℕ) (labels : List Label) (tries : List Try) (w : Weak) → AreTried (tree_of accepted.now.program.term) labels tries
         → IsWeakRun (tree_of accepted.now.program.term) labels w
@@ -65,22 +65,22 @@ pub fn calls_are_told_with(accepted: &Accepted)
         ≡ weak_calls device (weak_start (tree_of accepted.now.program.term)) labels }
 {}
 
-/// The notes of a journal are those of the tries, in their order, where the tries stand in order and none is
-/// behind the labels; and without its notes it is the journal of the labels.
+/// Says that the notes of a journal are those of the attempts, in their order, if attempts are in order and none is
+/// after the last label; and that without its notes it is the journal of the labels.
 pub fn notes_are_of_the_tries()
     ensures notes { (labels : List Label) (tries : List Try) → AreTriesInOrder 0 (length labels) tries
         → notes_of (straight_with 0 tries outset labels) ≡ map note_for tries }
     ensures others { (labels : List Label) (tries : List Try) → without_notes (straight_with 0 tries outset labels) ≡ straight labels }
 {}
 
-/// The strong state in the weak state to which the labels of an accepted program lead is typed.
+/// Says that the strong state in the weak state to which labels of an accepted program lead is typed.
 pub fn weak_runs_are_typed(accepted: &Accepted)
     ensures { (labels : List Label) (w : Weak) → IsWeakRun (tree_of accepted.now.program.term) labels w
         → (cells : StoreTyping) × IsTyped (signature_of accepted.now) cells w.state }
 {}
 
-/// Within the bounds no value of a run of an accepted program is more than 1,000 high. So a value that would be higher
-/// would be so by one.
+/// Says that within the bounds no value of a run of an accepted program is more than 1,000 high, so that a value that
+/// would be higher would be 1,001 high.
 pub fn values_stay_low(accepted: &Accepted)
     ensures stay { (labels : List Label) (w : Weak) → IsWeakRun (tree_of accepted.now.program.term) labels w
         → AreWithinBounds (weak_start (tree_of accepted.now.program.term)) labels → IsLow w }

@@ -15,8 +15,8 @@ use ame_term::{Label, Loc, Locs, NoMemory, StepKind, push};
 use std::alloc::Global;
 use std::collections::BTreeSet;
 
-/// The journal of the labels so far, and where they have come to: who is inside `unprotected`; and of the
-/// active fragment its member, its steps and its new locations.
+/// The journal of the labels so far, and the point that they have reached: the members inside `unprotected`, and
+/// the member, the steps and the new locations of the active fragment.
 #[derive(Drop)]
 pub(crate) struct Transcript {
     pub(crate) journal: Journal,
@@ -27,7 +27,7 @@ pub(crate) struct Transcript {
 }
 
 impl Transcript {
-    /// Before the first label.
+    /// Makes the transcript before the first label.
     pub(crate) fn new(alloc: Global) -> Transcript
         ensures stands { KeepsPlace outset result }
         ensures empty { result.journal.entries ≡ [] }
@@ -41,7 +41,7 @@ impl Transcript {
         }
     }
 
-    /// One more entry.
+    /// Adds an entry.
     fn add(&mut self, entry: Entry) -> Result<(), NoMemory>
         requires { IsFit entry }
         ensures { OnOk result (AddsEntries (entry ∷ []) self.old self.new) }
@@ -51,7 +51,7 @@ impl Transcript {
         Ok(())
     }
 
-    /// The note of a try.
+    /// Adds the note of an attempt.
     fn note(&mut self, alloc: Global, t: &Try) -> Result<(), NoMemory>
         ensures { OnOk result (AddsEntries (note_for t.now ∷ []) self.old self.new) }
     {
@@ -70,7 +70,7 @@ impl Transcript {
         })
     }
 
-    /// The notes of the tries that were made after n labels; tells the later tries.
+    /// Adds the notes of the attempts that were made after n labels. Returns the later attempts.
     pub(crate) fn note_all<'a>(
         &mut self,
         alloc: Global,
@@ -91,7 +91,7 @@ impl Transcript {
         Ok(rest)
     }
 
-    /// The entries of a label. Costs the logarithm of the members inside, and for a `Leave` or `End` the
+    /// Adds the entries of a label. Costs the logarithm of the members inside, and for a `Leave` or `End` the
     /// locations that the fragment made.
     pub(crate) fn write(&mut self, alloc: Global, label: Label) -> Result<(), NoMemory>
         requires { self.old.steps + 1 < 2 ^ 64 }
@@ -110,7 +110,7 @@ impl Transcript {
         }
     }
 
-    /// A member becomes active.
+    /// Begins a fragment of a member, without an entry.
     fn begin(&mut self, number: u64)
         ensures { Writes (Label.Activate number) self.old self.new }
     {
@@ -119,7 +119,7 @@ impl Transcript {
         self.fresh.clear();
     }
 
-    /// A step of the active fragment.
+    /// Counts a step of the active fragment, and keeps its new location.
     fn step(&mut self, kind: StepKind) -> Result<(), NoMemory>
         requires { self.old.steps + 1 < 2 ^ 64 }
         ensures { OnOk result (Writes (Label.Step kind) self.old self.new) }
@@ -131,7 +131,7 @@ impl Transcript {
         Ok(())
     }
 
-    /// The fragment leaves.
+    /// Adds the fragment's entry. Its member is inside from then on.
     fn leave(&mut self, alloc: Global) -> Result<(), NoMemory>
         ensures { OnOk result (Writes Label.Leave self.old self.new) }
     {
@@ -140,7 +140,7 @@ impl Transcript {
         Ok(())
     }
 
-    /// The fragment ends.
+    /// Adds the fragment's entry.
     fn ran(&mut self, alloc: Global) -> Result<(), NoMemory>
         ensures { OnOk result (Writes Label.End self.old self.new) }
     {
@@ -149,7 +149,7 @@ impl Transcript {
         self.add(entry)
     }
 
-    /// A member makes a step under `unprotected`.
+    /// Adds the entry of a step under `unprotected`, after the member has entered.
     fn free(&mut self, alloc: Global, number: u64, kind: StepKind) -> Result<(), NoMemory>
         ensures { OnOk result (Writes (Label.Free number kind) self.old self.new) }
     {
@@ -157,7 +157,7 @@ impl Transcript {
         self.add(freed(number, fresh_of(alloc, kind)?, answer_of(kind)))
     }
 
-    /// A member closes.
+    /// Adds the entry by which a member closes, after it has entered.
     fn close(&mut self, alloc: Global, number: u64) -> Result<(), NoMemory>
         ensures { OnOk result (Writes (Label.Close number) self.old self.new) }
     {
@@ -167,7 +167,7 @@ impl Transcript {
         Ok(())
     }
 
-    /// A member that isn't inside comes in.
+    /// Adds the entry by which a member enters, if it isn't inside.
     fn arrive(&mut self, alloc: Global, number: u64) -> Result<(), NoMemory>
         ensures { OnOk result (Arrives number self.old self.new) }
     {
@@ -180,7 +180,7 @@ impl Transcript {
     }
 }
 
-/// The entry of a fragment.
+/// Makes the entry of a fragment.
 fn ran(number: u64, steps: u64, fresh: Vec<Loc>) -> Entry
     ensures { result ≡ ran number steps (map (λ l. l.0) fresh.items) }
 {
@@ -194,7 +194,7 @@ fn ran(number: u64, steps: u64, fresh: Vec<Loc>) -> Entry
     }
 }
 
-/// The entry of one label under `unprotected`.
+/// Makes the entry of one label under `unprotected`.
 fn freed(number: u64, fresh: Vec<Loc>, answer: Option<i64>) -> Entry
     ensures { result ≡ freed number (map (λ l. l.0) fresh.items) answer }
 {
@@ -208,7 +208,7 @@ fn freed(number: u64, fresh: Vec<Loc>, answer: Option<i64>) -> Entry
     }
 }
 
-/// The new location of a step, if it makes one.
+/// Returns the new location of a step, if it makes one.
 fn fresh_of(alloc: Global, kind: StepKind) -> Result<Vec<Loc>, NoMemory>
     ensures { IfOk result (λ fresh. map (λ l. l.0) fresh.items ≡ fresh_of kind) }
 {
@@ -219,7 +219,7 @@ fn fresh_of(alloc: Global, kind: StepKind) -> Result<Vec<Loc>, NoMemory>
     Ok(fresh)
 }
 
-/// The answer that a step is told.
+/// Returns the answer of a device to a step, if it is a call.
 fn answer_of(kind: StepKind) -> Option<i64>
     ensures { result ≡ device_answer kind }
 {

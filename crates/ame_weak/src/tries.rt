@@ -1,9 +1,9 @@
-//! Fragments that were tried, and came to nothing.
+//! Attempts that left no entry.
 
 use ame_journal::Certificate;
 
-/// A fragment that was tried on a copy, where nothing was active after the first `after` labels. One that
-/// is failing came to a condition that is false; any other was cut off.
+/// An attempt to run a fragment on a copy, while nothing was active after the first `after` labels. If it is
+/// failing, it came to a false condition; otherwise it was cut off.
 #[derive(Drop)]
 pub struct Try {
     pub after: u64,

@@ -1,4 +1,4 @@
-//! What `judge` answers of the journals of runs that are over.
+//! The judge's answers to the journals of runs that are over.
 
 ghost use Rattle.std.specs.Prelude.{◌≡◌, ◌≤◌, ◌++◌, ℤ, false, List, All};
 ghost use Rattle.ame_term.specs.Tree.{Tree, Val};

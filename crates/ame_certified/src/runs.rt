@@ -38,7 +38,7 @@ pub fn runs_are_never_invalid()
         → Judges s.parts.program (whole_journal s.parts ++ entries_along events) judged → IsNeverInvalid end.parts.output judged }
 {}
 
-/// Says the like of a run that goes on from a journal that `judge` finds valid.
+/// Says the same of a run that goes on from a journal that `judge` finds valid.
 pub fn judged_certificates_go_on()
     ensures { (s end : State) (events : List Event) (output : List ℤ) (judged : Judged) → LeadsTo s.parts.program (whole_journal s.parts) output → Sound s
         → Follows s events end → GoLow s events → Judges s.parts.program (whole_journal s.parts ++ entries_along events) judged → IsRoundTrip end.parts.output judged }

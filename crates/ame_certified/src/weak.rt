@@ -17,8 +17,8 @@ ghost use Rattle.ame_certified.specs.Low.{StaysLow};
 ghost use Rattle.ame_certified.specs.RoundTrip.{IsRoundTrip};
 ghost use Rattle.ame_certified.specs.WeakTries.{AreTriedWithin, IsTallNote};
 
-/// Says that no entry of the journal of a weak run within the bounds passes a tall form. So it is with the notes of tries within the
-/// bounds, and with that of a member that grows too tall.
+/// Says that no entry of the journal of a weak run within the bounds passes a tall form. Nor does any note of an attempt within the bounds,
+/// or the note of a member that grows too tall.
 pub fn weak_journals_stay_low()
     ensures alone { (signature : Signature) (program : Tree) (labels : List Label) (w : Weak) → IsAccepted signature program → IsWeakRun program labels w
         → AreWithinBounds (weak_start program) labels → StaysLow program (straight labels) }

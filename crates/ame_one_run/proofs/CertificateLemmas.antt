@@ -1,4 +1,4 @@
--- What `judge` answers of the journal of a run.
+-- The judge's answers to the journal of a run.
 use Rattle.std.proofs.Common.{ℤ, List, sym, subst}
 use Rattle.std.specs.Prelude.{IfSome}
 use Rattle.ame_check.specs.Judge.{Judges}

@@ -42,7 +42,7 @@ replayed-shown program entries final e =
           ∙ sym (ap (map (λ call. answered call.0 call.1)) (calls-unfolded k (begun_at program) entries all.0 final all.1));
     }
 
--- a note at the end of a value that would be too high
+-- a note at the end, of a value nested too deeply
 pub tall-last : (program : Tree) (entries earlier : List Entry) (note : Entry) (final : Replayed) → replay program entries ≡ Some final →
     entries ≡ earlier ++ note ∷ [] → note.kind ≡ EntryKind.Tall → GrowsTooHigh final.state note.number
 tall-last program entries earlier note final e is tall =

@@ -24,7 +24,7 @@ use Rattle.ame_one_run.specs.Reached.{IsBlockedIn, ComesToCallOf, GrowsTooHigh}
 abbrev pub AskForRun : List (List ℕ) → Type 0
 AskForRun words = (words ≡ []) ⊎ ((options : List (List ℕ)) × (words ≡ codes "run" ∷ options))
 
--- how a run ended
+-- the ways in which a run ends
 pub data Ending : Type 0 where
   Finished : Ending
   Blocked : Ending
@@ -34,7 +34,7 @@ pub data Ending : Type 0 where
   NoMemory : Ending
   WriteFault : Ending
 
--- what holds in the last state; after a device's fault and a write fault also that its count rose, or is at its last value
+-- the facts of the last state; after a device's fault and a write fault, also that its count rose, or is at its last value
 abbrev pub IsEnding : Ending → State → Ends → Ends → Type 0
 IsEnding Ending.Finished s before after = s.members ≡ []
 IsEnding Ending.Blocked s before after = IsBlockedIn s

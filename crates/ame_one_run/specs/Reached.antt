@@ -1,4 +1,4 @@
--- Runs from a state to a false condition, to a call of a device, and to a value that is too high.
+-- Runs from a state to a false condition, to a call of a device, and to a value nested too deeply.
 use Rattle.std.specs.Prelude.{◌≡◌, ◌≢◌, ◌⊎◌, ℕ, ◌+◌, ℤ, false, List, [], ◌∷◌, map, replicate, Some}
 use Rattle.std.specs.Map.{lookup}
 use Rattle.std.specs.BTreeMap.{is_at}
@@ -37,7 +37,7 @@ pub record ComesToCallOf (s : State) (device : ℕ) : Type 0 where
   pub stands : lookup (is_at (nat_cmp number)) t.members ≡ Some (plug_all frames (Tree.One (unary.Call device) (Tree.Held (Val.Int argument))))
   pub under : side_of frames ≡ Side.Unprotected
 
--- member i comes, in a fragment or by steps under `unprotected`, to a form that would become a value one higher than the limit
+-- member i comes, in a fragment or by steps under `unprotected`, to a form whose value would be one higher than the limit
 pub record GrowsTooHigh (s : State) (i : ℕ) : Type 0 where
   pub kinds : List StepKind
   pub t : State

@@ -20,7 +20,7 @@ ghost use Rattle.ame_one_run.specs.Commands.{BeginsAnew, IsRunOf};
 use ame_cli::spells_one_command;
 use ame_parse::spelled_is_read;
 
-/// Shows that a call with the words of `run`, if it began a run, read its whole text, and made one run of it by the rules.
+/// Says that a call with the words of `run`, if it began a run, read its whole text, and made one run of it by the rules.
 pub fn one_run()
     ensures { (call : Call) (report : Reported) (before after : Ends) → IsPromised call report before after
         → AskForRun call.words → IfSome report.run (λ _. IsReadWhole call.source.left call.source_after.left report.text
@@ -29,7 +29,7 @@ pub fn one_run()
     spelled_is_read();
 }
 
-/// Shows that a call with the words of `run`, `bench`, `sim` or `replay`, if it began a run, made one run of its text by the rules.
+/// Says that a call with the words of `run`, `bench`, `sim` or `replay`, if it began a run, made one run of its text by the rules.
 pub fn each_run()
     ensures { (call : Call) (report : Reported) (before after : Ends) (command : Command)
         → IsPromised call report before after → SpellsCommand call.words command → BeginsAnew command
@@ -39,8 +39,8 @@ pub fn each_run()
     spells_one_command();
 }
 
-/// Shows that `judge` never finds the journal of a call that began a run invalid, whichever the command. If it finds it valid, its output is
-/// what the run printed.
+/// Says that `judge` never finds the journal of a call that began a run invalid, for any command. If it finds it valid, its output is
+/// the integers that the run printed.
 pub fn certificates_are_never_invalid()
     ensures { (call : Call) (report : Reported) (before after : Ends) → IsPromised call report before after
         → IfSome report.run (λ run. (judged : Judged) → Judges (program_of run.code) (journal_of (end_in run.left)) judged

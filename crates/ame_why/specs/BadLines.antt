@@ -58,7 +58,7 @@ next_part part.Location word = if bytes_eq word (codes "=") then part.Answer els
 next_part part.Answer word = part.End
 next_part part.End word = part.End
 
--- Each word before a place may stand where it stands, and this part comes next. The flag says that one of them is `free`.
+-- Each word before a place may stand at its own place, and this part comes next. The flag says that one of them is `free`.
 pub data ReadsTo (line : List ℕ) : ℕ → LinePart → Bool → Type 0 where
   none : ReadsTo line 0 part.Kind false
   more : (place : ℕ) (part : LinePart) (is_free : Bool) → ReadsTo line place part is_free → MayStand is_free part (word_from line place)
@@ -66,7 +66,7 @@ pub data ReadsTo (line : List ℕ) : ℕ → LinePart → Bool → Type 0 where
       → ReadsTo line (place + length (word_from line place) + 1) (next_part part (word_from line place))
       (is_free || bytes_eq (word_from line place) (codes "free"))
 
--- An error is at the first word that may not stand where it stands, or at the end of a line in which all words may.
+-- An error is at the first word that may not stand at its place, or at the end of a line in which all words may.
 pub data IsLineError (line : List ℕ) (place : ℕ) (message : List ℕ) : Type 0 where
   word : (part : LinePart) (is_free : Bool) → ReadsTo line place part is_free → (MayStand is_free part (word_from line place) → ⊥)
       → message ≡ wanted part (word_from line place) → IsLineError line place message

@@ -1,4 +1,4 @@
--- Each word so far may stand where it stands.
+-- Each word so far may stand at its place.
 use Rattle.std.proofs.Common.{◌-◌, ◌≤◌, length}
 use Rattle.ame_why.specs.BadLines.{ReadsTo}
 use Rattle.ame_why.proofs.journal_line.fault_of.Given as goal

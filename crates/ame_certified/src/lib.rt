@@ -1,4 +1,4 @@
-//! Theorems on the judge's answers to the journals of runs: each is a function without a body, whose contract is the statement.
+//! Theorems on the judge's answers to the journals of runs: each is a function that does nothing, and its contract is the statement.
 #![tactic(auto)]
 
 mod ended;

@@ -1,4 +1,4 @@
--- What is told of the bytes of a certificate.
+-- The answer to the bytes of a certificate.
 use Rattle.std.specs.Prelude.{◌≡◌, ℕ, ◌≤◌, ◌<◌, ◌⊎◌, List, [], ◌++◌, length}
 use Rattle.ame_io.specs.Reads.{whole_limit}
 use Rattle.ame_lex.specs.Bytes.{Text}
@@ -17,7 +17,7 @@ use Rattle.ame_c.specs.Out.{IsHandedOut}
 abbrev pub device_count : ℕ
 device_count = 2
 
--- The bytes are a journal and the text of a program, and this is told of them as by the command `check`.
+-- The bytes are a journal and the text of a program, and the command `check` judges them so.
 pub record IsJudgedAs (bytes : List ℕ) (ahead : List ℕ) (told : Status) : Type 0 where
   pub short : length bytes ≤ whole_limit
   pub front : Front
@@ -41,21 +41,21 @@ pub record HasNoCode (bytes : List ℕ) (told : Status) : Type 0 where
   pub takes : TakesCertificate bytes front text
   pub why : IsTextStatus text device_count told
 
--- why nothing is judged
+-- the status of bytes that aren't judged
 abbrev pub IsRefused : List ℕ → Status → Type 0
 IsRefused bytes told = IsTooLong bytes told ⊎ ((length bytes ≤ whole_limit) × HasNoCertificate bytes told) ⊎ HasNoCode bytes told ⊎ (told ≡ Status.NoMemory)
 
--- a status is told of the bytes, with these lines ahead of its own
+-- a status is that of the bytes, with these lines before its own
 abbrev pub TellsAhead : List ℕ → List ℕ → Status → Type 0
 TellsAhead bytes ahead told = IsJudgedAs bytes ahead told ⊎ ((ahead ≡ []) × IsRefused bytes told)
 
--- a status is told of the bytes, and these are all lines
+-- a status is that of the bytes, and these are all lines
 pub record TellsLines (bytes : List ℕ) (told : Status) (lines : List ℕ) : Type 0 where
   pub ahead : List ℕ
   pub cause : TellsAhead bytes ahead told
   pub lines_are : lines ≡ ahead ++ verdict told
 
--- what a caller is handed of a certificate
+-- the numbers and the lines that a caller gets for a certificate
 pub record AnswersCheck (bytes : List ℕ) (room : List ℕ) (status : ℕ) (left : List ℕ) (number whole : ℕ) : Type 0 where
   pub told : Status
   pub lines : List ℕ

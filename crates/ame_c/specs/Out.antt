@@ -1,4 +1,4 @@
--- What a caller is handed: numbers, and lines as far as there is room.
+-- The answer that a caller gets: numbers, and lines as far as there is room.
 use Rattle.std.specs.Prelude.{◌≡◌, ℕ, List, ◌++◌, length, take, drop}
 use Rattle.ame_lex.specs.declared.tokens.LexFault.{LexFault}
 use Rattle.ame_parse.specs.declared.fault.ParseFault.{ParseFault}
@@ -6,7 +6,7 @@ use Rattle.ame_app.specs.declared.fault.TextFault.{TextFault}
 use Rattle.ame_app.specs.declared.status.Status.{Status}
 use Rattle.ame_app.specs.Verdict.{number_of}
 
--- the place of a fault of a text
+-- the place of an error in a text
 abbrev pub place_in : TextFault → ℕ
 place_in (TextFault.Lexical (LexFault.BadByte place)) = place
 place_in (TextFault.Lexical (LexFault.LongNumber place)) = place
@@ -27,7 +27,7 @@ place_of (Status.Text fault) = place_in fault
 place_of (Status.Types fault) = fault.place
 place_of _ = 0
 
--- a room with a text at its front, as far as it fits; what is left of the room stays
+-- a room that begins with a text, as far as it fits; the rest of the room stays
 abbrev pub fitted : List ℕ → List ℕ → List ℕ
 fitted room text = take (length room) text ++ drop (length text) room
 

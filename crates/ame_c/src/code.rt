@@ -19,10 +19,10 @@ use ame_types::check;
 use std::alloc::Global;
 use std::sync::Arc;
 
-/// How many devices a program may call: those that a process has.
+/// The number of devices that a program may call: those that a process has.
 const DEVICES: u32 = 2;
 
-/// Returns the code of a text, or why there is none.
+/// Reads, types and compiles a text. The error is the status of a text that is no typed program, or `NoMemory`.
 pub(crate) fn code_of(alloc: Global, text: &[u8]) -> Result<Arc<Code>, Status>
     requires small { length text.now ≤ READ_LIMIT }
     ensures program { IfOk result (λ code. IsProgramOf text.now device_count (arc_value code).accepted) }
@@ -35,7 +35,7 @@ pub(crate) fn code_of(alloc: Global, text: &[u8]) -> Result<Arc<Code>, Status>
     Ok(Arc::new(alloc, compile(alloc, accepted)?)?)
 }
 
-/// States what an accepted program keeps: it is Unit under protected.
+/// Says that an accepted program is Unit under protected.
 fn accepted_is_typed(accepted: &Accepted)
     ensures { typing accepted.now.devices accepted.now.program.places.items (tree_of accepted.now.program.term) ≡ Ok Typ.Unit }
 {}

@@ -1,4 +1,4 @@
-//! What is told of a certificate.
+//! The judgement of a certificate.
 
 ghost use Rattle.std.specs.Prelude.{◌≤◌, IfOk, IfErr, [], length};
 ghost use Rattle.std.specs.Arc.{arc_value};
@@ -18,14 +18,14 @@ use ame_term::NoMemory;
 use std::alloc::{AllocError, Global};
 use std::sync::Arc;
 
-/// How a certificate is told, and all lines of it.
+/// The status of a certificate, and all lines of it.
 #[derive(Drop)]
 pub(crate) struct Answer {
     pub(crate) told: Status,
     pub(crate) lines: Vec<u8>,
 }
 
-/// What is told, with the lines before the last one.
+/// The status of a certificate, with the lines before the last one.
 #[derive(Drop)]
 struct Settled {
     told: Status,
@@ -33,7 +33,7 @@ struct Settled {
     own: Own,
 }
 
-/// Returns what is told of a journal of a program.
+/// Judges a journal of a program.
 fn settle(alloc: Global, code: &Arc<Code>, journal: &Journal) -> Result<Settled, NoMemory>
     ensures { IfOk result (λ s. TellsOfJournal (program_of (arc_value code.now)) journal.now.entries s.ahead.items s.own s.told) }
 {
@@ -58,7 +58,7 @@ fn settle(alloc: Global, code: &Arc<Code>, journal: &Journal) -> Result<Settled,
     }
 }
 
-/// Judges the bytes of a certificate, or returns the status for which nothing is judged.
+/// Judges the bytes of a certificate. The error is the status of bytes that aren't judged.
 fn judged(alloc: Global, bytes: &[u8]) -> Result<Settled, Status>
     ensures judged { IfOk result (λ s. IsJudgedAs bytes.now s.ahead.items s.told) }
     ensures refused { IfErr result (IsRefused bytes.now) }
@@ -74,7 +74,7 @@ fn judged(alloc: Global, bytes: &[u8]) -> Result<Settled, Status>
     }
 }
 
-/// Judges the bytes of a certificate; nothing stands before the last line if nothing is judged.
+/// Judges the bytes of a certificate. If nothing is judged, there is only the last line.
 fn told_of(alloc: Global, bytes: &[u8]) -> Settled
     ensures { TellsAhead bytes.now result.ahead.items result.told }
 {
@@ -88,7 +88,7 @@ fn told_of(alloc: Global, bytes: &[u8]) -> Settled
     }
 }
 
-/// Returns what is told of the bytes of a certificate, with all lines.
+/// Judges the bytes of a certificate, and returns all lines.
 pub(crate) fn answer_of(alloc: Global, bytes: &[u8]) -> Result<Answer, AllocError>
     ensures { IfOk result (λ a. TellsLines bytes.now a.told a.lines.items) }
 {

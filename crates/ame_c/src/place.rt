@@ -7,7 +7,7 @@ use ame_app::{Status, TextFault};
 use ame_lex::LexFault;
 use ame_parse::ParseFault;
 
-/// Returns the place of a fault of a text; 0 for out of memory.
+/// Returns the place of an error in a text; 0 for out of memory.
 fn place_in(fault: &TextFault) -> u32
     ensures { result ≡ spec.place_in fault.now }
 {
@@ -23,7 +23,7 @@ fn place_in(fault: &TextFault) -> u32
     }
 }
 
-/// Returns the last number in the line of a status that a certificate can have; 0 for every other one.
+/// Returns the last number in the line of a status that a certificate can have; 0 for any other.
 pub(crate) fn place_of(told: &Status) -> u64
     ensures { result ≡ spec.place_of told.now }
 {

@@ -43,7 +43,7 @@ pub(crate) fn from_place(bytes: &[u8], start: usize) -> &[u8]
     &bytes[start..]
 }
 
-/// Returns how many line feeds there are.
+/// Counts line feeds.
 fn feeds(bytes: &[u8]) -> usize
     ensures value { result ≡ count_by (λ b. b == 10) bytes.now }
     ensures within { result ≤ length bytes.now }

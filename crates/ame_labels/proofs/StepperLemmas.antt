@@ -26,7 +26,7 @@ use Rattle.ame_print.specs.Printer.{spelling_of}
 use Rattle.ame_strong.specs.Pool.{but, pool}
 use Rattle.ame_strong.specs.View.{state_of}
 use Rattle.ame_labels.specs.Stepped.{kind_of, label_words, reduced_term, shown_term, changed_location, stored_words, started_words, label_row, entry_heading, HasLabels, Rows, ShowsSteps}
-use Rattle.ame_labels.specs.Steppers.{Stays, Adds, AddsAll, Takes, Steps, StepsAlong, step_label, AreSilent, MakesLast, IsAt, MakesLabels, MakesEntry}
+use Rattle.ame_labels.specs.Steppers.{Stays, Adds, AddsAll, Takes, Steps, StepsAlong, step_label, AreSilent, MakesLast, IsStepperAt, MakesLabels, MakesEntry}
 use Rattle.ame_labels.specs.declared.steps.Stepper.{Stepper}
 use Rattle.ame_labels.proofs.LedgerLemmas.{one-more, one-less, others-same}
 
@@ -173,7 +173,7 @@ stays-outside s i term idle there refused =
     by true e h = e
     by false e h = cc
 
-module _ (r : Replayed) (entry : Entry) (old : Stepper) (stands : IsAt r old) where
+module _ (r : Replayed) (entry : Entry) (old : Stepper) (stands : IsStepperAt r old) where
   -- labels that an entry has, from its beginning
   makes-labels : (new : Stepper) (labels : List Label) (t : Replayed) → AddsAll labels old new → HasLabels r entry labels t → state_of new.state ≡ t.state
       → ((k : ℕ) → contains nat_cmp new.inside k ≡ is_inside t k) → MakesLabels r entry old new
@@ -300,8 +300,8 @@ module _ (r : Replayed) (entry : Entry) (old : Stepper) (stands : IsAt r old) wh
         (λ k. update k ∙ ap (λ (z : BTreeSet ℕ). cond (is_at (nat_cmp entry.number) k) false (contains nat_cmp z k)) steps.kept))
 
 -- from where nothing had changed that a row shows
-pub makes-from : (entry : Entry) (old mid new : Stepper) → Stays old mid → ((r : Replayed) → IsAt r mid → MakesLabels r entry mid new)
-    → (r : Replayed) → IsAt r old → MakesLabels r entry old new
+pub makes-from : (entry : Entry) (old mid new : Stepper) → Stays old mid → ((r : Replayed) → IsStepperAt r mid → MakesLabels r entry mid new)
+    → (r : Replayed) → IsStepperAt r old → MakesLabels r entry old new
 makes-from entry old mid new same makes r stands =
     let m = makes r (record { state = same.state ∙ stands.state; inside = λ k. ap (λ (z : BTreeSet ℕ). contains nat_cmp z k) same.inside ∙ stands.inside k }) in
     record {
@@ -368,7 +368,7 @@ none-by-test (Some x) e = cc
 pub record ShowsSoFar (names : List Text) (start : Replayed) (entries : List Entry) (s : Stepper) : Type 0 where
   pub led : Replayed
   pub shows : ShowsSteps names start entries s.page led
-  pub stands : IsAt led s
+  pub stands : IsStepperAt led s
   pub spelled : spelling_of s.names.items ≡ names
 
 pub shows-begin : (names : List Text) (program : Tree) (s : Stepper) → state_of s.state ≡ start program → s.inside.keys ≡ []

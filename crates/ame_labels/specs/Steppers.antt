@@ -80,7 +80,7 @@ pub data MakesLast (i : ℕ) (fresh : List ℕ) (answer : Option ℤ) (old new :
       → ((k : ℕ) → contains nat_cmp new.inside k ≡ cond (is_at (nat_cmp i) k) false (contains nat_cmp old.inside k)) → MakesLast i fresh answer old new
 
 -- a stepper stands at a replayed state
-pub record IsAt (r : Replayed) (s : Stepper) : Type 0 where
+pub record IsStepperAt (r : Replayed) (s : Stepper) : Type 0 where
   pub state : state_of s.state ≡ r.state
   pub inside : (i : ℕ) → contains nat_cmp s.inside i ≡ is_inside r i
 
@@ -93,8 +93,8 @@ pub record MakesLabels (r : Replayed) (entry : Entry) (old new : Stepper) : Type
   pub rows : Rows (spelling_of old.names.items) r.state labels part led.state
   pub page : new.page ≡ old.page ++ part
   pub names : spelling_of new.names.items ≡ spelling_of old.names.items
-  pub stands : IsAt led new
+  pub stands : IsStepperAt led new
 
 -- so it is wherever the stepper stands
 abbrev pub MakesEntry : Entry → Stepper → Stepper → Type 0
-MakesEntry entry old new = (r : Replayed) → IsAt r old → MakesLabels r entry old new
+MakesEntry entry old new = (r : Replayed) → IsStepperAt r old → MakesLabels r entry old new

@@ -26,7 +26,7 @@ use Rattle.ame_print.specs.Printer.{spelling_of}
 use Rattle.ame_strong.specs.Pool.{but, pool}
 use Rattle.ame_strong.specs.View.{state_of}
 use Rattle.ame_labels.specs.Stepped.{kind_of, label_words, reduced_term, shown_term, changed_location, stored_words, started_words, label_row, entry_heading, HasLabels, Rows, ShowsSteps}
-use Rattle.ame_labels.specs.Steppers.{Stays, Adds, AddsAll, Takes, Steps, StepsAlong, step_label, AreSilent, MakesLast, IsStepperAt, MakesLabels, MakesEntry}
+use Rattle.ame_labels.specs.Steppers.{Stays, AddsRow, AddsAll, Takes, Steps, StepsAlong, step_label, AreSilent, MakesLast, IsStepperAt, MakesLabels, MakesEntry}
 use Rattle.ame_labels.specs.declared.steps.Stepper.{Stepper}
 use Rattle.ame_labels.proofs.LedgerLemmas.{one-more, one-less, others-same}
 
@@ -49,7 +49,7 @@ rows-append names s t xs p first _ _ _ (Rows.more labels page v w label before l
 
 -- Labels that were made
 
-adds-one : (label : Label) (old new : Stepper) → Adds label old new → AddsAll (label ∷ []) old new
+adds-one : (label : Label) (old new : Stepper) → AddsRow label old new → AddsAll (label ∷ []) old new
 adds-one label old new a = record {
   names = a.names;
   part = label_row (spelling_of old.names.items) (state_of old.state) label (state_of new.state);
@@ -125,7 +125,7 @@ uses-all inside n fresh rest all a b along same none =
     subst (λ (z : List ℕ). StepsAlong inside n z [] a b) same (subst (λ (z : List ℕ). StepsAlong inside n fresh z a b) none along)
 
 -- another set of members is inside
-pub adds-inside : (label : Label) (a b : Stepper) (inside : BTreeSet ℕ) → Adds label a b → Adds label a (record b { inside = inside })
+pub adds-inside : (label : Label) (a b : Stepper) (inside : BTreeSet ℕ) → AddsRow label a b → AddsRow label a (record b { inside = inside })
 adds-inside label a b inside adds = record { names = adds.names; legal = adds.legal; page = adds.page }
 
 -- Last steps
@@ -224,17 +224,17 @@ module _ (r : Replayed) (entry : Entry) (old : Stepper) (stands : IsStepperAt r 
         (sym (ap (λ (o : Option ℕ). at (but o (state_of old.state).members) entry.number) idle) ∙ there) refused))))
         stands.state (inside-entered r entry.number r.state old.inside inside stands.inside update)
 
-    module _ (begun done : Stepper) (activates : Adds (Label.Activate entry.number) old begun) (steps : StepsAlong None entry.steps entry.fresh [] begun done) where
+    module _ (begun done : Stepper) (activates : AddsRow (Label.Activate entry.number) old begun) (steps : StepsAlong None entry.steps entry.fresh [] begun done) where
       are : AreSteps steps.kinds entry.steps entry.fresh None
       are = record { count = steps.count; made = sym (steps.made ∙ append-nil (made_by steps.kinds)); answered = answered-silent steps.kinds steps.silent }
 
-      all-with : (label : Label) (new : Stepper) → Adds label done new → AddsAll (fragment_labels entry.number steps.kinds ++ label ∷ []) old new
+      all-with : (label : Label) (new : Stepper) → AddsRow label done new → AddsAll (fragment_labels entry.number steps.kinds ++ label ∷ []) old new
       all-with label new adds =
           adds-then (fragment_labels entry.number steps.kinds) (label ∷ []) old done new
           (adds-then (Label.Activate entry.number ∷ []) (map (step_label None) steps.kinds) old begun done (adds-one (Label.Activate entry.number) old begun activates) steps.adds)
           (adds-one label done new adds)
 
-      pub makes-end : (new : Stepper) → Adds Label.End done new → new.inside ≡ old.inside → MakesLabels r entry old new
+      pub makes-end : (new : Stepper) → AddsRow Label.End done new → new.inside ≡ old.inside → MakesLabels r entry old new
       makes-end new ends same =
           let labels = fragment_labels entry.number steps.kinds ++ Label.End ∷ [] in
           let all : AddsAll labels old new = all-with Label.End new ends in
@@ -243,7 +243,7 @@ module _ (r : Replayed) (entry : Entry) (old : Stepper) (stands : IsStepperAt r 
           (ran entry.steps entry.fresh labels (staying r s) refl refl (Unfolds.ends steps.kinds entry.steps entry.fresh s outside are (runs-from new labels all)))
           refl (λ k. ap (λ (z : BTreeSet ℕ). contains nat_cmp z k) same ∙ stands.inside k)
 
-      pub makes-leave : (new : Stepper) → Adds Label.Leave done new
+      pub makes-leave : (new : Stepper) → AddsRow Label.Leave done new
           → ((k : ℕ) → contains nat_cmp new.inside k ≡ cond (is_at (nat_cmp entry.number) k) true (contains nat_cmp old.inside k)) → MakesLabels r entry old new
       makes-leave new leaves update =
           let labels = fragment_labels entry.number steps.kinds ++ Label.Leave ∷ [] in

@@ -23,7 +23,7 @@ pub record Stays (old new : Stepper) : Type 0 where
   pub page : new.page ≡ old.page
 
 -- a legal label was made, and its row added
-pub record Adds (label : Label) (old new : Stepper) : Type 0 where
+pub record AddsRow (label : Label) (old new : Stepper) : Type 0 where
   pub names : spelling_of new.names.items ≡ spelling_of old.names.items
   pub legal : after (state_of old.state) label ≡ Some (state_of new.state)
   pub page : new.page ≡ old.page ++ label_row (spelling_of old.names.items) (state_of old.state) label (state_of new.state)
@@ -38,7 +38,7 @@ pub record AddsAll (labels : List Label) (old new : Stepper) : Type 0 where
 -- a label was made, or it isn't legal
 pub record Takes (label : Label) (is_made : Bool) (old new : Stepper) : Type 0 where
   pub inside : new.inside ≡ old.inside
-  pub made : is_made ≡ true → Adds label old new
+  pub made : is_made ≡ true → AddsRow label old new
   pub refused : is_made ≡ false → Stays old new × (after (state_of old.state) label ≡ None)
 
 -- the label of a step of the active member, or of one that is inside
@@ -55,7 +55,7 @@ pub record Uses (kind : StepKind) (fresh rest : List ℕ) : Type 0 where
 pub record Steps (inside : Option ℕ) (fresh rest : List ℕ) (old new : Stepper) : Type 0 where
   pub kind : StepKind
   pub uses : Uses kind fresh rest
-  pub adds : Adds (step_label inside kind) old new
+  pub adds : AddsRow (step_label inside kind) old new
   pub kept : new.inside ≡ old.inside
 
 -- no step calls a device
@@ -74,9 +74,9 @@ pub record StepsAlong (inside : Option ℕ) (n : ℕ) (fresh rest : List ℕ) (o
 
 -- The last step under `unprotected` was made, which may call a device, or the member closed.
 pub data MakesLast (i : ℕ) (fresh : List ℕ) (answer : Option ℤ) (old new : Stepper) : Type 0 where
-  steps : (kind : StepKind) → fresh ≡ fresh_of kind → answer ≡ device_answer kind → Adds (Label.Free i kind) old new → new.inside ≡ old.inside →
+  steps : (kind : StepKind) → fresh ≡ fresh_of kind → answer ≡ device_answer kind → AddsRow (Label.Free i kind) old new → new.inside ≡ old.inside →
       MakesLast i fresh answer old new
-  closes : fresh ≡ [] → answer ≡ None → Adds (Label.Close i) old new
+  closes : fresh ≡ [] → answer ≡ None → AddsRow (Label.Close i) old new
       → ((k : ℕ) → contains nat_cmp new.inside k ≡ cond (is_at (nat_cmp i) k) false (contains nat_cmp old.inside k)) → MakesLast i fresh answer old new
 
 -- a stepper stands at a replayed state

@@ -31,7 +31,7 @@ use Rattle.ame_journal.proofs.LabelLemmas.{fragment_run, unfold-all, unfolds_all
 use Rattle.ame_journal.proofs.ReachedLemmas.{IsCalm, calm-all, calm-replayed}
 use Rattle.ame_journal.proofs.StepLemmas.{reduced, step-reduced, step-keeps, named, no_answer, activate-is, activated-resting}
 use Rattle.ame_weak.proofs.HeldSteps.{if-gave, map-gave}
-use Rattle.ame_calculus.specs.Blocked.{IsWitness, IsBlocked}
+use Rattle.ame_calculus.specs.Blocked.{IsWitness, IsBlockedState}
 use Rattle.ame_calculus.specs.Renamed.{AreInverse, renamed_kind, IsRenamed}
 use Rattle.ame_calculus.proofs.RenamedJournal.{failing-too}
 use Rattle.ame_calculus.proofs.RenamedRuns.{label-too}
@@ -242,7 +242,7 @@ close-unprotected : (p : Focus) (v : Val) → closed_value p ≡ Some v → at_u
 close-unprotected (Focus.AtRedex Side.Protected (Tree.Unprotected part)) v e = refl
 close-unprotected _ v e = cc
 
-module _ (s : State) (blocked : IsBlocked s) where
+module _ (s : State) (blocked : IsBlockedState s) where
   -- a member with a witness doesn't stand at `unprotected`
   outside : (i : ℕ) (term : Tree) → at s.members i ≡ Some term → at_unprotected (focus term) ≡ true → ⊥
   outside i term member stands =
@@ -308,7 +308,7 @@ module _ (s : State) (blocked : IsBlocked s) where
 
 -- The runs of an accepted program
 module _ (devices : ℕ) (places : List ℕ) (program : Tree) (refs : List Typ) (accepts : Accepts devices places program refs) (source : IsSourceTerm program) (numbered : IsNumbered 0 program)
-    (labels : List Label) (s : State) (ran : IsRun program labels s) (blocked : IsBlocked s) where
+    (labels : List Label) (s : State) (ran : IsRun program labels s) (blocked : IsBlockedState s) where
   its : (cells : StoreTyping) × IsTyped (listed devices refs) cells s × IsOrderly s
   its = reached devices places program refs labels s accepts source numbered ran
 
@@ -327,7 +327,7 @@ not-nil : {X : Type 0} (xs : List X) (x : X) → xs ++ x ∷ [] ≡ [] → ⊥
 not-nil [] x e = cc
 not-nil (y ∷ xs) x e = cc
 
-module _ (r : Replayed) (blocked : IsBlocked r.state) (signature : Signature) (cells : StoreTyping) (typed : IsTyped signature cells r.state) (calm : IsCalm r) where
+module _ (r : Replayed) (blocked : IsBlockedState r.state) (signature : Signature) (cells : StoreTyping) (typed : IsTyped signature cells r.state) (calm : IsCalm r) where
   -- no label is made
   no-label : (label : Label) (labels : List Label) (s : State) → run r.state (label ∷ labels) ≡ Some s → s.active ≡ None → ⊥
   no-label label labels s e idle =
@@ -366,7 +366,7 @@ module _ (r : Replayed) (blocked : IsBlocked r.state) (signature : Signature) (c
       (y.0, ap (λ (b : Bool). cond (not b) (entry ∷ without_notes entries) (without_notes entries)) x.0 ∙ y.1)
 
 pub certificates-end : (devices : ℕ) (places : List ℕ) (program : Tree) (refs : List Typ) → Accepts devices places program refs → IsSourceTerm program → IsNumbered 0 program
-    → (entries more : List Entry) (r t : Replayed) → replay program entries ≡ Some r → IsBlocked r.state → replay_from r more ≡ Some t → (t ≡ r) × (without_notes more ≡ [])
+    → (entries more : List Entry) (r t : Replayed) → replay program entries ≡ Some r → IsBlockedState r.state → replay_from r more ≡ Some t → (t ≡ r) × (without_notes more ≡ [])
 certificates-end devices places program refs accepts source numbered entries more r t e blocked goes =
     let first = unfold-all (begun_at program) entries r e in
     let ran = unfolds_all-run (begun_at program) entries first.0 r first.1 in

@@ -12,6 +12,6 @@ abbrev pub IsWitness : State → ℕ → List StepKind → Type 0
 IsWitness s i kinds = (t : State) × (run s (fragment_labels i kinds) ≡ Some t) × (is_failing i t ≡ true)
 
 -- nothing is active, and each member has a witness
-pub record IsBlocked (s : State) : Type 0 where
+pub record IsBlockedState (s : State) : Type 0 where
   pub idle : s.active ≡ None
   pub each : (i : ℕ) (term : Tree) → at s.members i ≡ Some term → (kinds : List StepKind) × IsWitness s i kinds

@@ -13,7 +13,7 @@ use Rattle.ame_protocol.specs.declared.stop.Stop.{Stop}
 use Rattle.ame_protocol.specs.declared.types.Limits.{Limits}
 use Rattle.ame_protocol.specs.Waits.Certificates.{IsCertificate}
 use Rattle.ame_engine.specs.Ending.{End, IsEnd}
-use Rattle.ame_calculus.specs.Blocked.{IsWitness, IsBlocked}
+use Rattle.ame_calculus.specs.Blocked.{IsWitness, IsBlockedState}
 
 abbrev HasWitness : State → ℕ → Type 0
 HasWitness s i = (kinds : List StepKind) × IsWitness s i kinds
@@ -32,7 +32,7 @@ witnesses s certificates hold members i term found =
     ((members i).0 (ap is_some found))
 
 pub end-blocked : (program : Tree) (signature : Signature) (limits : Limits) {V : Type 0} (value : V → Val) (end : End V) (over : IsEnd program signature limits value end) →
-    end.stop ≡ Some Stop.Blocked → IsBlocked over.r.state
+    end.stop ≡ Some Stop.Blocked → IsBlockedState over.r.state
 end-blocked program signature limits value end over stop =
     let all = over.stopped.blocked stop in
     record {

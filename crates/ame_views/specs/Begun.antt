@@ -92,7 +92,7 @@ pub record IsAsyncOf (code : FlatCode) (body form : NodeNo) : Type 0 where
   pub is : async_body node.shape ≡ Some body.0
 
 -- the `async` form with this body is at this position of the text
-pub record IsFormAt (text : Text) (code : FlatCode) (body : NodeNo) (there : Position) : Type 0 where
+pub record IsAsyncFormAt (text : Text) (code : FlatCode) (body : NodeNo) (there : Position) : Type 0 where
   pub form : NodeNo
   pub starts : IsAsyncOf code body form
   pub place : ℕ

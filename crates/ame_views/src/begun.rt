@@ -227,7 +227,7 @@ pub(crate) fn started_position(
 /// Returns the place of the `async` form with this body.
 fn form_position(lines: &LineIndex, code: &Code, numbers: &[u32], body: NodeNo) -> Option<Position>
     requires { numbers.now ≡ read_numbers 0 (program_of code.now) }
-    ensures there { IfSome result (spec.IsFormAt lines.now.text.now code.now body) }
+    ensures there { IfSome result (spec.IsAsyncFormAt lines.now.text.now code.now body) }
     ensures hidden { result ≡ None → spec.IsFormless lines.now.text.now code.now body }
 {
     let form = async_of(code, body)?;

@@ -7,7 +7,7 @@ use Rattle.ame_shell.specs.Shell.{shell_view}
 use Rattle.ame_baton.specs.declared.view.Knows.{Knows}
 use Rattle.ame_baton.specs.Seats.{Takes}
 use Rattle.ame_worker.specs.declared.shared.Shared.{Shared}
-use Rattle.ame_worker.specs.Opened.{StandsFor}
+use Rattle.ame_worker.specs.Opened.{HasRowsAndTurns}
 use Rattle.ame_worker.specs.Rows.{SeatRow}
 use Rattle.ame_worker.specs.Shared.{OpenedView}
 use Rattle.ame_worker.specs.Turns.{TurnView, maker, HasHadTurns}
@@ -20,7 +20,7 @@ module _ {M K D C V : Type 0} (meaning : Meaning C V M) where
     pub before : Knows (OpenedView C V M) (SeatRow M) (TurnView C V M)
     pub seated : IsSeated meaning.signature code limits before
     pub taken : Shared M K D C V
-    pub takes : Takes (StandsFor meaning) maker before taken holding
+    pub takes : Takes (HasRowsAndTurns meaning) maker before taken holding
     pub had : Work M
     pub led : List (TurnView C V M)
     pub turns : HasHadTurns meaning code holding.number had (shell_view taken.shell.value) taken.turns (shell_view shared.shell.value) shared.turns work led

@@ -23,12 +23,12 @@ module _ {M K D C V : Type 0} where
 
 module _ {M K D C V : Type 0} (meaning : Meaning C V M) where
   -- these rows and turns stand for a shell that was opened so
-  abbrev pub StandsFor : Shared M K D C V → OpenedView C V M → List (SeatRow M) → List (TurnView C V M) → Type 0
-  StandsFor shared opened rows told = IsShared meaning opened (shell_view shared.shell.value) shared.places.items shared.turns rows told
+  abbrev pub HasRowsAndTurns : Shared M K D C V → OpenedView C V M → List (SeatRow M) → List (TurnView C V M) → Type 0
+  HasRowsAndTurns shared opened rows told = IsShared meaning opened (shell_view shared.shell.value) shared.places.items shared.turns rows told
 
   -- no seat had a turn yet
   abbrev pub IsUnused : Shared M K D C V → Type 0
-  IsUnused shared = StandsFor shared (opened_now shared) (replicate shared.made.value.engine.limits.seats empty_row) []
+  IsUnused shared = HasRowsAndTurns shared (opened_now shared) (replicate shared.made.value.engine.limits.seats empty_row) []
 
   -- A shell was opened so, and no seat had a turn yet.
   pub record IsOpenedBy (opening : Opening C) (shared : Shared M K D C V) : Type 0 where

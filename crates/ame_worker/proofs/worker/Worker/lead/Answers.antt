@@ -9,7 +9,7 @@ use Rattle.ame_worker.specs.declared.worker.Worker.{Worker}
 use Rattle.ame_worker.specs.Holding.{HasTheTurn}
 use Rattle.ame_worker.specs.Leads.{RestsAtStop, LeadsOn}
 use Rattle.ame_worker.specs.Led.{HasLed}
-use Rattle.ame_worker.specs.Opened.{StandsFor}
+use Rattle.ame_worker.specs.Opened.{HasRowsAndTurns}
 use Rattle.ame_worker.specs.Turns.{maker, HasHadTurns}
 use Rattle.ame_worker.specs.Workers.{IsSeated, IsReadyToTurn}
 use Rattle.ame_worker.proofs.GivenLemmas.{same-limits, taken-may, ready-again}
@@ -35,7 +35,7 @@ hand_over-requires-clause-holds g c =
       before = k;
       seated = subst (λ x. IsSeated r.signature (arc_value x.code) x.limits k) (sym made.worker) c.requires.ready.seated;
       taken = shared;
-      takes = subst (λ x. Takes (StandsFor r) maker k shared (knows x.seat)) (sym made.worker) c.in-Ok.ensures.taken;
+      takes = subst (λ x. Takes (HasRowsAndTurns r) maker k shared (knows x.seat)) (sym made.worker) c.in-Ok.ensures.taken;
       had = old;
       led = made.led.led;
       turns = subst (λ x. HasHadTurns r (arc_value x.code) (knows x.seat).number old (shell_view shared.shell.value) shared.turns (shell_view mid.shell.value) mid.turns w.work made.led.led)
@@ -59,7 +59,7 @@ returns-clause-led g c =
       before = k;
       seated = subst (λ x. IsSeated r.signature (arc_value x.code) x.limits k) (sym made.worker) c.requires.ready.seated;
       taken = shared;
-      takes = subst (λ x. Takes (StandsFor r) maker k shared (knows x.seat)) (sym made.worker) c.in-Ok.ensures.taken;
+      takes = subst (λ x. Takes (HasRowsAndTurns r) maker k shared (knows x.seat)) (sym made.worker) c.in-Ok.ensures.taken;
       had = old;
       led = made.led.led;
       turns = subst (λ x. HasHadTurns r (arc_value x.code) (knows x.seat).number old (shell_view shared.shell.value) shared.turns (shell_view mid.shell.value) mid.turns w.work made.led.led)
@@ -87,7 +87,7 @@ returns-clause-keeps g c =
       before = k;
       seated = subst (λ x. IsSeated r.signature (arc_value x.code) x.limits k) (sym made.worker) c.requires.ready.seated;
       taken = shared;
-      takes = subst (λ x. Takes (StandsFor r) maker k shared (knows x.seat)) (sym made.worker) c.in-Ok.ensures.taken;
+      takes = subst (λ x. Takes (HasRowsAndTurns r) maker k shared (knows x.seat)) (sym made.worker) c.in-Ok.ensures.taken;
       had = old;
       led = made.led.led;
       turns = subst (λ x. HasHadTurns r (arc_value x.code) (knows x.seat).number old (shell_view shared.shell.value) shared.turns (shell_view mid.shell.value) mid.turns w.work made.led.led)
@@ -114,7 +114,7 @@ returns-clause-ready g c =
       before = k;
       seated = subst (λ x. IsSeated r.signature (arc_value x.code) x.limits k) (sym made.worker) c.requires.ready.seated;
       taken = shared;
-      takes = subst (λ x. Takes (StandsFor r) maker k shared (knows x.seat)) (sym made.worker) c.in-Ok.ensures.taken;
+      takes = subst (λ x. Takes (HasRowsAndTurns r) maker k shared (knows x.seat)) (sym made.worker) c.in-Ok.ensures.taken;
       had = old;
       led = made.led.led;
       turns = subst (λ x. HasHadTurns r (arc_value x.code) (knows x.seat).number old (shell_view shared.shell.value) shared.turns (shell_view mid.shell.value) mid.turns w.work made.led.led)

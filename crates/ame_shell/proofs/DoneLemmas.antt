@@ -38,7 +38,7 @@ use Rattle.ame_engine.proofs.VisitPlaceLemmas.{visits-as}
 use Rattle.ame_shell.specs.declared.work.Outcome.{Outcome}
 use Rattle.ame_shell.specs.Ready.{IsReady}
 use Rattle.ame_shell.specs.Work.{CanUndo, IsAtWork}
-use Rattle.ame_shell.specs.Asked.{waits_for_check, IsToGoOn, AsksFor, RunsTo, Accesses, IsToCheck, IsToCommit, IsToVisit, IsToTakeMemory, LacksWhereDue}
+use Rattle.ame_shell.specs.Asked.{waits_for_check, IsToGoOn, AsksFor, AsksAsProtected, Accesses, IsToCheck, IsToCommit, IsToVisit, IsToTakeMemory, LacksWhereDue}
 use Rattle.ame_shell.specs.Outcomes.{StopsBy, IsOutcomeOf, IsMade, IsDone}
 use Rattle.ame_shell.proofs.OutcomeRows.{HasRow, rowed}
 use Rattle.ame_shell.proofs.ValidLemmas.{none-invalid}
@@ -61,7 +61,7 @@ module _ {C V M : Type 0} (core : Core C V M) (s : MachineView) (going : core.st
   pub asks-from : (want : Wants) → s.want ≡ Some want → AsksFor core (Some s) s want
   asks-from want is = record { goes = goes-from; wants = is }
 
-  pub runs-from : (want : Wants) → s.want ≡ Some want → s.inside ≡ false → RunsTo core (Some s) s want
+  pub runs-from : (want : Wants) → s.want ≡ Some want → s.inside ≡ false → AsksAsProtected core (Some s) s want
   runs-from want is outside = record { asks = asks-from want is; outside = outside }
 
   pub accesses-from : (want : Wants) → s.want ≡ Some want → s.inside ≡ false → s.since < core.limits.slice → Accesses core (Some s) s want

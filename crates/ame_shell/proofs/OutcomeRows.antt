@@ -45,7 +45,7 @@ use Rattle.ame_engine.proofs.CheckLemmas.{shown-valid}
 use Rattle.ame_engine.proofs.MakesLemmas.{begun-made, read-made, written-made, met-made, allocated-made, checked-made, stale-made, undone-made, gone-made}
 use Rattle.ame_engine.proofs.MakesLemmas.{noted-made, ended-made, left-made, tall-made, cut-made, refused-made, visited-made}
 use Rattle.ame_shell.specs.declared.work.Outcome.{Outcome}
-use Rattle.ame_shell.specs.Asked.{AsksFor, RunsTo, Accesses, IsToCheck, IsToCommit, IsToVisit, HasNoTurnsLeft, IsToUndo, AreAllValid}
+use Rattle.ame_shell.specs.Asked.{AsksFor, AsksAsProtected, Accesses, IsToCheck, IsToCommit, IsToVisit, HasNoTurnsLeft, IsToUndo, AreAllValid}
 use Rattle.ame_shell.specs.Outcomes.{StopsBy, is_visit, Meets, IsOutcomeOf, IsMade, IsDone}
 use Rattle.ame_machine.specs.Meaning.{Meaning}
 
@@ -116,21 +116,21 @@ module _ {C V M : Type 0} (meaning : Meaning C V M) (seat : ℕ)
       (s : MachineView) × IsToCheck old hand s × (attempt : Attempt) × RunsValid attempt × MakesCounted (one_counted Counted.Check) (has_checked seat s.steps attempt)
   Row before after (Outcome.FoundInvalid bad) = (s : MachineView) × IsToCheck old hand s × TurnsBack (one_invalid Counted.Check) bad
   Row before after Outcome.Ended =
-      (s : MachineView) × RunsTo old hand s wants.Done × (attempt : Attempt) × RunsValid attempt
+      (s : MachineView) × AsksAsProtected old hand s wants.Done × (attempt : Attempt) × RunsValid attempt
       × MakesCounted (one_counted Counted.Commit) (ended_at seat attempt.tried.number s)
   Row before after Outcome.Left =
-      (s : MachineView) × RunsTo old hand s wants.Leave × (attempt : Attempt) × RunsValid attempt
+      (s : MachineView) × AsksAsProtected old hand s wants.Leave × (attempt : Attempt) × RunsValid attempt
       × MakesCounted (one_counted Counted.Commit) (left_at seat attempt.tried.number s)
   Row before after (Outcome.Refused bad) = (s : MachineView) × IsToCommit old hand s × TurnsBack (one_invalid Counted.Commit) bad
   Row before after Outcome.Noted =
-      (s : MachineView) × RunsTo old hand s wants.Block × (attempt : Attempt) × RunsValid attempt
+      (s : MachineView) × AsksAsProtected old hand s wants.Block × (attempt : Attempt) × RunsValid attempt
       × MakesCounted (one_counted Counted.Block) (has_noted seat attempt s.steps (place_shown s))
-  Row before after (Outcome.NotNoted bad) = (s : MachineView) × RunsTo old hand s wants.Block × TurnsBack (one_invalid Counted.Block) bad
+  Row before after (Outcome.NotNoted bad) = (s : MachineView) × AsksAsProtected old hand s wants.Block × TurnsBack (one_invalid Counted.Block) bad
   Row before after Outcome.GrewTall =
       (s : MachineView) × AsksFor old hand s wants.Tall × (attempt : Attempt) × (working (task_at old.tasks seat) ≡ Some attempt) × AreAllValid old seat
       × MakesLast (Stop.Tall attempt.tried.number) (one_counted Counted.Tall)
       (has_grown_tall seat attempt.tried.number s.steps (place_shown s) (task_at old.tasks seat))
-  Row before after (Outcome.NotTall bad) = (s : MachineView) × RunsTo old hand s wants.Tall × TurnsBack (one_invalid Counted.Tall) bad
+  Row before after (Outcome.NotTall bad) = (s : MachineView) × AsksAsProtected old hand s wants.Tall × TurnsBack (one_invalid Counted.Tall) bad
   Row before after Outcome.CameHome =
       (s : MachineView) × IsToVisit old hand s × (attempt : Attempt) × (task_at old.tasks seat ≡ Task.Free attempt)
       × HasComeHome meaning seat attempt.tried.number s before after old new

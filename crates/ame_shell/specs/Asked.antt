@@ -45,13 +45,13 @@ module _ {C V M : Type 0} (core : Core C V M) (hand : Option MachineView) where
     pub wants : s.want ≡ Some want
 
   -- and is protected code
-  pub record RunsTo (s : MachineView) (want : Wants) : Type 0 where
+  pub record AsksAsProtected (s : MachineView) (want : Wants) : Type 0 where
     pub asks : AsksFor s want
     pub outside : s.inside ≡ false
 
   -- whose slice isn't full
   pub record Accesses (s : MachineView) (want : Wants) : Type 0 where
-    pub runs : RunsTo s want
+    pub runs : AsksAsProtected s want
     pub early : s.since < core.limits.slice
 
   -- protected code whose slice is full, so that its reads are checked first
@@ -94,7 +94,7 @@ module _ {C V M : Type 0} (core : Core C V M) (seat : ℕ) (hand : Option Machin
     begins : task_at core.tasks seat ≡ Task.Idle → takes_memory (pick_of core) ≡ true → IsToTakeMemory
     accesses : (s : MachineView) (want : Wants) → Accesses core hand s want → takes_input (Some want) ≡ true → IsToTakeMemory
     commits : (s : MachineView) → IsToCommit core hand s → AreAllValid core seat → IsToTakeMemory
-    notes : (s : MachineView) → RunsTo core hand s wants.Block → AreAllValid core seat → IsToTakeMemory
+    notes : (s : MachineView) → AsksAsProtected core hand s wants.Block → AreAllValid core seat → IsToTakeMemory
     grows : (s : MachineView) → AsksFor core hand s wants.Tall → AreAllValid core seat → IsToTakeMemory
     visits : (s : MachineView) → IsToVisit core hand s → IsToTakeMemory
     cuts : (s : MachineView) → hand ≡ Some s → HasNoTurnsLeft core → AreAllValid core seat → IsToTakeMemory

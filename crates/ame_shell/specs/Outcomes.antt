@@ -31,7 +31,7 @@ use Rattle.ame_engine.specs.Seen.{parts_of}
 use Rattle.ame_engine.specs.Stops.{stopped_by, blocked_by}
 use Rattle.ame_engine.specs.Visiting.{VisitsTo}
 use Rattle.ame_shell.specs.declared.work.Outcome.{Outcome}
-use Rattle.ame_shell.specs.Asked.{AsksFor, RunsTo, Accesses, IsToCheck, IsToCommit, IsToVisit, HasNoTurnsLeft, AreAllValid}
+use Rattle.ame_shell.specs.Asked.{AsksFor, AsksAsProtected, Accesses, IsToCheck, IsToCommit, IsToVisit, HasNoTurnsLeft, AreAllValid}
 
 module _ {C V M : Type 0} where
   -- what a seat makes of the engine that meets a stop, with the certificates if all members are parked
@@ -97,19 +97,19 @@ module _ {C V M : Type 0} (meaning : Meaning C V M) (seat : ℕ)
     checked : (s : MachineView) (attempt : Attempt) → IsToCheck old hand s → IsOutcomeOf Outcome.Checked (Event.Check seat attempt s.steps)
     found_invalid : (s : MachineView) (attempt : Attempt) (bad : Bad) → IsToCheck old hand s → IsReadInvalid bad
         → IsOutcomeOf (Outcome.FoundInvalid bad) (Event.TurnBack seat attempt (Reverse.Stale Find.Check))
-    ended : (s : MachineView) (attempt : Attempt) (place : LocalState) → RunsTo old hand s wants.Done → IsShownAt s None place
+    ended : (s : MachineView) (attempt : Attempt) (place : LocalState) → AsksAsProtected old hand s wants.Done → IsShownAt s None place
         → IsOutcomeOf Outcome.Ended (Event.End seat attempt s.steps place (owned_places seat (parts_of meaning old).memory.cells))
-    left : (s : MachineView) (attempt : Attempt) (place : LocalState) → RunsTo old hand s wants.Leave → IsShownAt s None place
+    left : (s : MachineView) (attempt : Attempt) (place : LocalState) → AsksAsProtected old hand s wants.Leave → IsShownAt s None place
         → IsOutcomeOf Outcome.Left (Event.Leave seat attempt s.steps place (owned_places seat (parts_of meaning old).memory.cells))
     refused : (s : MachineView) (attempt : Attempt) (bad : Bad) → IsToCommit old hand s → IsReadInvalid bad
         → IsOutcomeOf (Outcome.Refused bad) (Event.TurnBack seat attempt (Reverse.Stale Find.Commit))
-    noted : (s : MachineView) (attempt : Attempt) (place : LocalState) → RunsTo old hand s wants.Block → IsShownAt s None place
+    noted : (s : MachineView) (attempt : Attempt) (place : LocalState) → AsksAsProtected old hand s wants.Block → IsShownAt s None place
         → IsOutcomeOf Outcome.Noted (Event.Note seat attempt s.steps place)
-    not_noted : (s : MachineView) (attempt : Attempt) (bad : Bad) → RunsTo old hand s wants.Block → IsReadInvalid bad
+    not_noted : (s : MachineView) (attempt : Attempt) (bad : Bad) → AsksAsProtected old hand s wants.Block → IsReadInvalid bad
         → IsOutcomeOf (Outcome.NotNoted bad) (Event.TurnBack seat attempt (Reverse.Stale Find.Block))
     grew_tall : (s : MachineView) (attempt : Attempt) (place : LocalState) → AsksFor old hand s wants.Tall → AreAllValid old seat → IsShownAt s None place
         → IsOutcomeOf Outcome.GrewTall (Event.Tall seat attempt s.steps place)
-    not_tall : (s : MachineView) (attempt : Attempt) (bad : Bad) → RunsTo old hand s wants.Tall → IsReadInvalid bad
+    not_tall : (s : MachineView) (attempt : Attempt) (bad : Bad) → AsksAsProtected old hand s wants.Tall → IsReadInvalid bad
         → IsOutcomeOf (Outcome.NotTall bad) (Event.TurnBack seat attempt (Reverse.Stale Find.Tall))
     came_home : (s comes : MachineView) (answer : Option ℤ) (memory : MemoryView Val) (attempt : Attempt) (place : LocalState) → IsToVisit old hand s
         → VisitsTo s (parts_of meaning old).memory before answer comes memory after → IsShownAt comes answer place

@@ -4,12 +4,12 @@ use Rattle.ame_io.specs.Lines.{lines}
 use Rattle.ame_engine.specs.Whole.{AreLimits}
 use Rattle.ame_machine.specs.Meaning.{Meaning}
 use Rattle.ame_shell.specs.Shell.{ShellView}
-use Rattle.ame_shell.specs.Turned.{IsInOrder}
+use Rattle.ame_shell.specs.Turned.{IsShellInOrder}
 
 module _ {C V M : Type 0} (meaning : Meaning C V M) where
   -- where code, limits and devices stay
-  pub order-stays : (code : C) (old new : ShellView C V M) → IsInOrder meaning code old → new.core.code ≡ old.core.code → new.core.limits ≡ old.core.limits
-      → length new.ends.told ≡ length old.ends.told → new.sent ≤ length (lines new.core.output) → IsInOrder meaning code new
+  pub order-stays : (code : C) (old new : ShellView C V M) → IsShellInOrder meaning code old → new.core.code ≡ old.core.code → new.core.limits ≡ old.core.limits
+      → length new.ends.told ≡ length old.ends.told → new.sent ≤ length (lines new.core.output) → IsShellInOrder meaning code new
   order-stays code old new order same limits devices within = record {
     same = order.same ∙ sym same;
     limits = subst AreLimits (sym limits) order.limits;

@@ -39,7 +39,7 @@ member_told None after = after
 
 module _ {C V M : Type 0} (meaning : Meaning C V M) where
   -- The code is the engine's, and its limits are in range. There are devices enough, and no more was sent than there is.
-  pub record IsInOrder (code : C) (shell : ShellView C V M) : Type 0 where
+  pub record IsShellInOrder (code : C) (shell : ShellView C V M) : Type 0 where
     pub same : code ≡ shell.core.code
     pub limits : AreLimits shell.core.limits
     pub enough : (meaning.signature shell.core.code).devices ≤ length shell.ends.told
@@ -47,7 +47,7 @@ module _ {C V M : Type 0} (meaning : Meaning C V M) where
 
   -- A seat may have its turn: the shell is in order, it has this seat, and the seat's work in flight fits.
   pub record MayTurn (code : C) (seat : ℕ) (shell : ShellView C V M) (work : Work M) : Type 0 where
-    pub order : IsInOrder code shell
+    pub order : IsShellInOrder code shell
     pub there : seat < shell.core.limits.seats
     pub fits : Fits meaning shell.core seat work
 

@@ -12,7 +12,7 @@ use Rattle.ame_protocol.specs.declared.types.Task.{Task}
 use Rattle.ame_protocol.specs.Engine.Parts.{task_at}
 use Rattle.ame_rows.specs.MemoryView.{row_at}
 use Rattle.ame_shell.specs.Shell.{ShellView}
-use Rattle.ame_shell.specs.Turned.{IsInOrder}
+use Rattle.ame_shell.specs.Turned.{IsShellInOrder}
 use Rattle.ame_shell.specs.declared.work.Work.{Work}
 use Rattle.ame_shell.specs.declared.work.Work.TheVariants as work
 use Rattle.ame_shell.specs.Work.{Fits}
@@ -31,7 +31,7 @@ picks_left (Some why) turns waits = 0
 module _ {C V M : Type 0} (meaning : Meaning C V M) where
   -- The shell is in order. The work in flight of each seat is kept, and it fits.
   pub record IsCrew (code : C) (shell : ShellView C V M) (hands : List (Work M)) : Type 0 where
-    pub order : IsInOrder meaning code shell
+    pub order : IsShellInOrder meaning code shell
     pub count : length hands ≡ shell.core.limits.seats
     pub fit : (seat : ℕ) → Fits meaning shell.core seat (slice_index_or hands seat work.Idle)
 

@@ -10,7 +10,7 @@ use Rattle.ame_engine.specs.Whole.{AreLimits}
 use Rattle.ame_shell.specs.declared.work.Work.{Work}
 use Rattle.ame_shell.specs.Ready.{CanBePrepared, IsPrepared}
 use Rattle.ame_shell.specs.Shell.{ShellView}
-use Rattle.ame_shell.specs.Turned.{IsInOrder, MayTurn}
+use Rattle.ame_shell.specs.Turned.{IsShellInOrder, MayTurn}
 use Rattle.ame_shell.specs.Work.{stage_at, Fits}
 use Rattle.ame_baton.specs.declared.view.Knows.{Knows}
 use Rattle.ame_baton.specs.Seats.{Takes, MayGive, Gives}
@@ -84,7 +84,7 @@ module _ {C V M : Type 0} (meaning : Meaning C V M) {S : Type 0} (shown_of : S �
         subst (λ (l : Limits). holding.number < l.seats) (sym same-limits) (subst (λ (n : ℕ). n < limits.seats) (sym finds.keeps.number) seated.number)
 
     -- and it is in order
-    taken-order : IsInOrder meaning code (shown_of taken)
+    taken-order : IsShellInOrder meaning code (shown_of taken)
     taken-order =
         in-order meaning seated.opened (shown_of taken) (places_of taken) (turns_of taken) holding.rows holding.seen was code seated.of_code
         (subst AreLimits (sym seated.of_limits) seated.ranges) seated.enough

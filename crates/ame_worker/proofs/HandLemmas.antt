@@ -22,7 +22,7 @@ use Rattle.ame_shell.specs.Ready.{IsPrepared}
 use Rattle.ame_shell.specs.Work.{Fits}
 use Rattle.ame_shell.proofs.ReadyLemmas.{prepared-fits}
 use Rattle.ame_shell.specs.Shell.{ShellView, GoesTo}
-use Rattle.ame_shell.specs.Turned.{IsInOrder, LeavesInOrder}
+use Rattle.ame_shell.specs.Turned.{IsShellInOrder, LeavesInOrder}
 use Rattle.ame_worker.specs.Rows.{Kept, SeatRow, nothing_kept, kept_at, row_of, rows_in}
 use Rattle.ame_worker.specs.Shared.{OpenedView, opening_of, keeping, IsShared}
 use Rattle.ame_worker.specs.Slots.{Slot, SlotsStay, slot_at}
@@ -93,7 +93,7 @@ module _ {C V M : Type 0} (meaning : Meaning C V M) where
       (told : List (TurnView C V M)) (was : IsShared meaning opened old places turns rows told) where
     -- the shell is in order
     pub in-order : (code : C) → opened.made.core.code ≡ code → AreLimits opened.made.core.limits
-        → (meaning.signature code).devices ≤ length opened.made.ends.told → IsInOrder meaning code old
+        → (meaning.signature code).devices ≤ length opened.made.ends.told → IsShellInOrder meaning code old
     in-order code of_code ranges enough =
         let same : old.core.code ≡ code = was.shell.opened.code ∙ of_code in
         record {

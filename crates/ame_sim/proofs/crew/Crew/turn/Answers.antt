@@ -2,7 +2,7 @@ use Rattle.std.proofs.Common.{◌<◌, sym, subst, arith}
 use Rattle.std.specs.Arc.{arc_value}
 use Rattle.ame_shell.specs.Work.{stage_at}
 use Rattle.ame_shell.specs.Shell.{shell_view, IsShell}
-use Rattle.ame_shell.specs.Turned.{IsInOrder, LeavesInOrder}
+use Rattle.ame_shell.specs.Turned.{IsShellInOrder, LeavesInOrder}
 use Rattle.ame_shell.proofs.TurnLemmas.{hand-stands}
 use Rattle.ame_sim.proofs.CrewLemmas.{crew-turned, turn-played}
 use Rattle.ame_sim.proofs.PreparedLemmas.{prepared-or-lacked}
@@ -11,7 +11,7 @@ use Rattle.ame_sim.proofs.crew.Crew.turn.Goals as goal
 pub turn-member-requires : goal.turn-member-requires
 turn-member-requires g c = record {
   may = record {
-    order = subst (λ k. IsInOrder g.M.Runner.meaning k (shell_view c.self.inside.shell)) (sym c.deref-2.ensures) c.self.invariant.order;
+    order = subst (λ k. IsShellInOrder g.M.Runner.meaning k (shell_view c.self.inside.shell)) (sym c.deref-2.ensures) c.self.invariant.order;
     there = subst (λ v. c.args.seat < v.core.limits.seats) (sym c.self.view_is) c.requires;
     fits = c.prepare_seat.ensures.fits;
   };

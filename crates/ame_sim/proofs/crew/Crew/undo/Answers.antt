@@ -3,7 +3,7 @@ use Rattle.std.specs.Prelude.{slice_index_or}
 use Rattle.std.proofs.lemmas.Option.{slice_get-get_or}
 use Rattle.std.specs.Arc.{arc_value}
 use Rattle.ame_shell.specs.Shell.{shell_view, IsShell}
-use Rattle.ame_shell.specs.Turned.{IsInOrder, LeavesInOrder}
+use Rattle.ame_shell.specs.Turned.{IsShellInOrder, LeavesInOrder}
 use Rattle.ame_shell.specs.declared.work.Work.TheVariants as work
 use Rattle.ame_shell.specs.Work.{Fits}
 use Rattle.ame_sim.proofs.CrewLemmas.{some-is, crew-turned}
@@ -22,7 +22,7 @@ turn-requires g c =
     sym (slice_get-get_or hands seat work.Idle within) ∙ slice_get-get_or hands seat lent within ∙ ap (λ w. Some w) (sym c.index_mut.ensures.value) in
     record {
       may = record {
-        order = subst (λ k. IsInOrder g.M.Runner.meaning k (shell_view c.self.inside.shell)) (sym c.deref.ensures) c.self.invariant.order;
+        order = subst (λ k. IsShellInOrder g.M.Runner.meaning k (shell_view c.self.inside.shell)) (sym c.deref.ensures) c.self.invariant.order;
         there = there;
         fits = subst (λ w. Fits g.M.Runner.meaning c.self.inside.shell.engine seat w) (some-is _ _ same) (c.self.invariant.fit seat);
       };

@@ -39,17 +39,17 @@ module _ {C V M : Type 0} (core : Core C V M) (hand : Option MachineView) where
     pub going : core.stop ≡ None
     pub left : core.turns < core.limits.turns
 
-  -- it has come to this
+  -- a machine with which its seat goes on has come to this
   pub record AsksFor (s : MachineView) (want : Wants) : Type 0 where
     pub goes : IsToGoOn s
     pub wants : s.want ≡ Some want
 
-  -- and is protected code
+  -- protected code has come to this
   pub record AsksAsProtected (s : MachineView) (want : Wants) : Type 0 where
     pub asks : AsksFor s want
     pub outside : s.inside ≡ false
 
-  -- whose slice isn't full
+  -- protected code whose slice is not full has come to this
   pub record Accesses (s : MachineView) (want : Wants) : Type 0 where
     pub runs : AsksAsProtected s want
     pub early : s.since < core.limits.slice

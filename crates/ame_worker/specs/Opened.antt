@@ -22,7 +22,7 @@ module _ {M K D C V : Type 0} where
   opened_now shared = opened_from (shell_view shared.made.value) (shell_view shared.shell.value)
 
 module _ {M K D C V : Type 0} (meaning : Meaning C V M) where
-  -- these rows and turns stand for a shell that was opened so
+  -- a shared shell that was opened so has these rows and turns
   abbrev pub HasRowsAndTurns : Shared M K D C V → OpenedView C V M → List (SeatRow M) → List (TurnView C V M) → Type 0
   HasRowsAndTurns shared opened rows told = IsShared meaning opened (shell_view shared.shell.value) shared.places.items shared.turns rows told
 

@@ -83,7 +83,7 @@ apart-noted (e ∷ es) apart = by (apart-noted es apart.1)
         let before = h.before in
         record { place = suc h.place; behind = omega (arith, behind); before = omega (arith, before); entry = h.entry; there = h.there; is = h.is }
 
--- no notes stand in front of others
+-- entries that are no notes stand before others
 front-behind : (i : ℕ) (es later : List Entry) → AllByRecursion (IsOther i) es → (list_any news es ≡ true) ⊎ IsBehind i later → IsBehind i (es ++ later)
 front-behind i [] later others (inl some) = absurd (cc)
 front-behind i [] later others (inr behind) = behind
@@ -150,7 +150,7 @@ label-news p (Label.Close i) e = absurd (cc)
 
 -- Tries in order
 
--- those behind the first ones come later
+-- those after the first ones come later
 pub order-behind : (n m : ℕ) (ts : List Try) → AreTriesInOrder n m ts → AreTriesInOrder (n + 1) m (tries_behind n ts)
 order-behind n m [] order = tt
 order-behind n m (t ∷ ts) order = by (t.after == n) refl (λ rest. order-behind n m ts rest)
@@ -205,7 +205,7 @@ noted-others i n labels (t ∷ ts) all = by (t.after == n) refl (noted-others i 
     by false is rest = tt
     by true is rest = (other t.failing refl (eqb-true t.after n is), rest)
 
--- behind a label without news
+-- after a label without news
 later-behind : (i n : ℕ) (label : Label) (labels : List Label) (u : Try) → brings_news label ≡ false → IsLater i n (label ∷ labels) u → n + 1 ≤ u.after
     → IsLater i (n + 1) labels u
 later-behind i n label labels u quiet later few = λ failing number.
@@ -265,7 +265,7 @@ spaced-behind n label labels (t ∷ ts) few spaced = (
   spaced-behind n label labels ts few.1 spaced.1,
 )
 
--- the first tries are those that are made here; what stands behind them is that of the others
+-- the first tries are those that are made here; the others follow them
 apart-notes : (n m : ℕ) (ts : List Try) (p : Place) (labels : List Label) → AreTriesInOrder n m ts → AreSpacedFrom n labels ts
     → ((us : List Try) → noted_tries n us ≡ [] → AreTriesInOrder (n + 1) m us → AreSpacedFrom n labels us → AreApart (straight_with n us p labels))
     → AreApart (straight_with n ts p labels)

@@ -32,14 +32,15 @@ use Rattle.ame_weak.specs.Tries.{HoldsIn}
 use Rattle.ame_weak.specs.declared.tries.Try.{Try}
 use Rattle.ame_journal.specs.declared.certificate.Certificate.{Certificate}
 use Rattle.ame_weak.proofs.StraightLemmas.{past_all, follow-labels, ends-strong, begun-followed}
-use Rattle.ame_runner.specs.Play.{PlayView, HasMade}
+use Rattle.ame_runner.specs.Play.{PlayView, HasMadeLabel}
 use Rattle.ame_runner.specs.Choices.{candidates}
 use Rattle.ame_runner.specs.Freeing.{FailsFor, HasFreed}
-use Rattle.ame_runner.specs.Run.{RunView, IsRunning, CanBeEnded}
+use Rattle.ame_runner.specs.Run.{CourseView, IsRunning, CanBeEnded}
 use Rattle.ame_runner.specs.Stop.{certified_numbers, HearsOn, StopsIfTold, HasGrown, RunsUntil, PlaysOn, StandsAtCall, HasStoppedWeakly, MayGoOn, IsFoundInOrder, FoundAtRest, HasCertified}
 use Rattle.ame_journal.specs.declared.entry.Entry.{Entry}
 use Rattle.ame_weak.specs.Bounds.{is_growing_tall}
 use Rattle.ame_runner.specs.Tall.{tall_note, IsTallIn}
+use Rattle.ame_runner.specs.Within.{IsReachedWithin}
 use Rattle.ame_runner.specs.declared.freeing.Freed.{Freed}
 use Rattle.ame_runner.specs.declared.stop.WeakStop.{WeakStop}
 use Rattle.ame_runner.proofs.NoteLemmas.{all-more}
@@ -51,11 +52,11 @@ use Rattle.ame_runner.proofs.HoldLemmas.{resting_grows_tall}
 -- Choices
 
 -- a label, or none, by which devices hear nothing
-pub goes-quiet : (r q : RunView) (told : List Told) → (IsRunning r → IsRunning q) → HearsOn None r q told told → IsRunning r → IsRunning q × HearsOn None r q told told × ⊤
+pub goes-quiet : (r q : CourseView) (told : List Told) → (IsRunning r → IsRunning q) → HearsOn None r q told told → IsRunning r → IsRunning q × HearsOn None r q told told × ⊤
 goes-quiet r q told runs hears running = (runs running, hears, tt)
 
 -- the device that a member calls fails, and the active fragment runs to its end
-pub goes-fault : (r q : RunView) (i device : ℕ) (before after : List Told) → FailsFor r.play.weak i device before after → (IsRunning r → IsRunning q)
+pub goes-fault : (r q : CourseView) (i device : ℕ) (before after : List Told) → FailsFor r.play.weak i device before after → (IsRunning r → IsRunning q)
     → ((told : List Told) → HearsOn None r q told told) → q.left ≡ [] → q.play.weak.state.active ≡ None → StandsAtCall q.play.weak device
     → IsRunning r → IsRunning q × HearsOn (Some (WeakStop.DeviceFault device)) r q before after × HasStoppedWeakly (WeakStop.DeviceFault device) q
 goes-fault r q i device before after f runs hears none idle stands running = (
@@ -68,7 +69,7 @@ goes-fault r q i device before after f runs hears none idle stands running = (
 )
 
 -- a stop by no device
-hears-stop : (stop : WeakStop) (r : RunView) (told : List Told) → IsFoundInOrder stop r → HearsOn (Some stop) r r told told
+hears-stop : (stop : WeakStop) (r : CourseView) (told : List Told) → IsFoundInOrder stop r → HearsOn (Some stop) r r told told
 hears-stop WeakStop.Finished r told found = λ opened running heard. (heard, λ k. refl)
 hears-stop (WeakStop.Blocked certificates) r told found = λ opened running heard. (heard, λ k. refl)
 hears-stop WeakStop.Spent r told found = λ opened running heard. (heard, λ k. refl)
@@ -76,7 +77,7 @@ hears-stop WeakStop.NoMemory r told found = absurd found
 hears-stop (WeakStop.DeviceFault device) r told found = absurd found
 hears-stop (WeakStop.Tall entry) r told found = absurd found
 
-runs-until : (stop : WeakStop) (r : RunView) → IsFoundInOrder stop r → IsRunning r → RunsUntil (Some stop) r
+runs-until : (stop : WeakStop) (r : CourseView) → IsFoundInOrder stop r → IsRunning r → RunsUntil (Some stop) r
 runs-until WeakStop.Finished r found running = running
 runs-until (WeakStop.Blocked certificates) r found running = running
 runs-until WeakStop.Spent r found running = running
@@ -84,48 +85,51 @@ runs-until WeakStop.NoMemory r found running = absurd found
 runs-until (WeakStop.DeviceFault device) r found running = absurd found
 runs-until (WeakStop.Tall entry) r found running = absurd found
 
-pub goes-stop : (r : RunView) (told : List Told) (stop : WeakStop) → FoundAtRest r (Some stop) → IsRunning r
+pub goes-stop : (r : CourseView) (told : List Told) (stop : WeakStop) → FoundAtRest r (Some stop) → IsRunning r
     → RunsUntil (Some stop) r × HearsOn (Some stop) r r told told × HasStoppedWeakly stop r
 goes-stop r told stop found running = let f = found running in (runs-until stop r f.1 running, hears-stop stop r told f.1, f.0)
 
 -- a member grew too tall, and devices hear nothing
-pub goes-tall : (r q : RunView) (told : List Told) (entry : Entry) → (IsRunning r → HasGrown entry q × HasStoppedWeakly (WeakStop.Tall entry) q) → HearsOn None r q told told
+pub goes-tall : (r q : CourseView) (told : List Told) (entry : Entry) → (IsRunning r → HasGrown entry q × HasStoppedWeakly (WeakStop.Tall entry) q) → HearsOn None r q told told
     → IsRunning r → HasGrown entry q × HearsOn (Some (WeakStop.Tall entry)) r q told told × HasStoppedWeakly (WeakStop.Tall entry) q
 goes-tall r q told entry grows hears running = let x = grows running in (x.0, hears, x.1)
 
--- where a member stands under `unprotected` that is about to become a value that is too high, nothing is active, and no label is left to be made
-pub stops-tall : (r : RunView) (i : ℕ) (entry : Entry) → IsSourceTerm r.play.program → r.left ≡ [] → r.play.weak.state.active ≡ None → is_growing_tall r.play.weak (Some i) ≡ true
+-- a member is about to become a value that is too high under `unprotected`, nothing is active, and no label is left to be made
+pub stops-tall : (r : CourseView) (i : ℕ) (entry : Entry) → IsSourceTerm r.play.program → r.left ≡ [] → r.play.weak.state.active ≡ None → is_growing_tall r.play.weak (Some i) ≡ true
     → entry ≡ tall_note i 0 [] → IsRunning r → HasGrown entry r × HasStoppedWeakly (WeakStop.Tall entry) r
 stops-tall r i entry source none idle grows is running = (
-  record { turns = r.turns; before = running; more = omega arith; within = running.within },
+  record { turns = r.turns; before = running; more = inl refl; within = running.within },
   record {
     none = none;
     idle = idle;
-    cause = resting_grows_tall r.play.program r.play.labels r.play.weak i entry source running.played.leads running.played.within grows is;
+    cause = (
+      resting_grows_tall r.play.program r.play.labels r.play.weak i entry source running.played.leads running.played.within grows is,
+      inl (ap (λ (e : Entry). e.steps) is),
+    );
   },
 )
 
 -- a fragment was tried that grew too tall
-pub attempts-tall : (r q : RunView) (entry : Entry) (n : ℕ) → q ≡ record r { turns = n } → n ≤ r.turns + (entry.steps + 1) → n ≤ r.limit → r.left ≡ [] → r.play.weak.state.active ≡ None
-    → IsTallIn r.play.weak.state entry → IsRunning r → HasGrown entry q × HasStoppedWeakly (WeakStop.Tall entry) q
+pub attempts-tall : (r q : CourseView) (entry : Entry) (n : ℕ) → q ≡ record r { turns = n } → n ≡ r.turns + (entry.steps + 1) → n ≤ r.limit → r.left ≡ [] → r.play.weak.state.active ≡ None
+    → IsTallIn r.play.weak.state entry × IsReachedWithin r.play.weak entry → IsRunning r → HasGrown entry q × HasStoppedWeakly (WeakStop.Tall entry) q
 attempts-tall r q entry n is more within none idle tall running =
-    subst (λ (z : RunView). HasGrown entry z × HasStoppedWeakly (WeakStop.Tall entry) z) (sym is) (
-      record { turns = r.turns; before = running; more = more; within = within },
+    subst (λ (z : CourseView). HasGrown entry z × HasStoppedWeakly (WeakStop.Tall entry) z) (sym is) (
+      record { turns = r.turns; before = running; more = inr more; within = within },
       record { none = none; idle = idle; cause = tall },
     )
 
 -- what a choice came to
-pub goes-as : (r q : RunView) (before after : List Told) (stop told : Option WeakStop) → stop ≡ told → (IsRunning r → RunsUntil stop q × HearsOn stop r q before after × StopsIfTold stop q)
+pub goes-as : (r q : CourseView) (before after : List Told) (stop told : Option WeakStop) → stop ≡ told → (IsRunning r → RunsUntil stop q × HearsOn stop r q before after × StopsIfTold stop q)
     → IsRunning r → RunsUntil told q × HearsOn told r q before after × StopsIfTold told q
 goes-as r q before after stop told is goes = subst (λ (o : Option WeakStop). IsRunning r → RunsUntil o q × HearsOn o r q before after × StopsIfTold o q) is goes
 
--- memory was wanted
-pub plays-lost : {E : Type 0} (r q : RunView) (before after : List Told) (a : Result WeakStop E) → IsErr a → (IsRunning r → CanBeEnded q) → PlaysOn r q before after a
+-- out of memory
+pub plays-lost : {E : Type 0} (r q : CourseView) (before after : List Told) (a : Result WeakStop E) → IsErr a → (IsRunning r → CanBeEnded q) → PlaysOn r q before after a
 plays-lost r q before after (Err e) lost ends = ends
 plays-lost r q before after (Ok stop) lost ends = absurd (let clash : false ≡ true = lost in cc)
 
 -- choices, and one more or the stop
-module _ (a b q : RunView) (before mid after : List Told) (runs : IsRunning a → IsRunning b) (hears : HearsOn None a b before mid) where
+module _ (a b q : CourseView) (before mid after : List Told) (runs : IsRunning a → IsRunning b) (hears : HearsOn None a b before mid) where
   pub plays-until : (stop : WeakStop) → (IsRunning b → RunsUntil (Some stop) q × HearsOn (Some stop) b q mid after × HasStoppedWeakly stop q)
       → IsRunning a → RunsUntil (Some stop) q × HearsOn (Some stop) a q before after × HasStoppedWeakly stop q
   plays-until stop next running = let x = next (runs running) in (x.0, hears-then (Some stop) a b q before mid after hears runs x.1, x.2)
@@ -138,8 +142,8 @@ module _ (a b q : RunView) (before mid after : List Told) (runs : IsRunning a �
 
 module _ (devices : ℕ) (places : List ℕ) (program : Tree) (refs : List Typ) (accepts : Accepts devices places program refs) (source : IsSourceTerm program) (numbered : IsNumbered 0 program) where
   -- a label under `unprotected`
-  pub goes-label : (r q : RunView) (i : ℕ) (label : Label) (before after : List Told) → r.play.program ≡ program → HasFreed r.play.weak i r.above before after (Freed.Label label)
-      → HasMade label r.play q.play → (IsRunning r → IsRunning q) → IsRunning r → IsRunning q × HearsOn None r q before after × ⊤
+  pub goes-label : (r q : CourseView) (i : ℕ) (label : Label) (before after : List Told) → r.play.program ≡ program → HasFreed r.play.weak i r.above before after (Freed.Label label)
+      → HasMadeLabel label r.play q.play → (IsRunning r → IsRunning q) → IsRunning r → IsRunning q × HearsOn None r q before after × ⊤
   goes-label r q i label before after is freed made runs running = (
     runs running,
     λ opened go heard. (
@@ -161,7 +165,7 @@ module _ (devices : ℕ) (places : List ℕ) (program : Tree) (refs : List Typ) 
 
 -- Stops
 
-module _ (r : RunView) (none : r.left ≡ []) (idle : r.play.weak.state.active ≡ None) where
+module _ (r : CourseView) (none : r.left ≡ []) (idle : r.play.weak.state.active ≡ None) where
   pub found-finished : length (pool r.play.weak.state) ≡ 0 → FoundAtRest r (Some WeakStop.Finished)
   found-finished empty = λ running. (record { none = none; idle = idle; cause = by (pool r.play.weak.state) empty }, tt)
     where
@@ -186,7 +190,7 @@ fails-there w t holds failing =
     (λ (b : Bool). (if b then fails_after w.state t.certificate.number t.certificate.steps t.certificate.fresh
     else is_some (fragment t.certificate.number t.certificate.steps t.certificate.fresh w.state)) ≡ true) failing holds.1
 
-module _ (r : RunView) (number : ℕ) (old new : List Certificate) where
+module _ (r : CourseView) (number : ℕ) (old new : List Certificate) where
   abbrev Fails : Certificate → Type 0
   Fails c = fails_after r.play.weak.state c.number c.steps c.fresh ≡ true
 
@@ -214,7 +218,7 @@ module _ (r : RunView) (number : ℕ) (old new : List Certificate) where
   }
 
 -- so it is of all below a number
-pub record AreCertified (r : RunView) (n : ℕ) (certificates : List Certificate) : Type 0 where
+pub record AreCertified (r : CourseView) (n : ℕ) (certificates : List Certificate) : Type 0 where
   pub fail : IsRunning r → AllByRecursion (λ c. fails_after r.play.weak.state c.number c.steps c.fresh ≡ true) certificates
   pub all : (i : ℕ) → i < n → is_some (at (pool r.play.weak.state) i) ≡ true → list_any (λ c. c.number == i) certificates ≡ true
   pub low : All (λ k. k < n) (certified_numbers certificates)
@@ -225,7 +229,7 @@ rise-more [] n rise low = (All-nil (λ k. n < k), tt)
 rise-more (m ∷ ns) n rise low =
     (All-push (λ k. m < k) ns n rise.0 (All-head (λ k. k < n) m ns low), rise-more ns n rise.1 (All-tail (λ k. k < n) m ns low))
 
-pub certified-more : (r : RunView) (n : ℕ) (old new : List Certificate) → AreCertified r n old → HasCertified r n old new → AreCertified r (n + 1) new
+pub certified-more : (r : CourseView) (n : ℕ) (old new : List Certificate) → AreCertified r n old → HasCertified r n old new → AreCertified r (n + 1) new
 certified-more r n old new a h = record {
   fail = λ running. h.fail running (a.fail running);
   all = λ i below there. by i there (which i n below);
@@ -254,7 +258,7 @@ certified-more r n old new a h = record {
     by i there (inr less) = h.others i (a.all i less there)
 
 module _ (devices : ℕ) (places : List ℕ) (program : Tree) (refs : List Typ) (accepts : Accepts devices places program refs) (source : IsSourceTerm program) (numbered : IsNumbered 0 program) where
-  pub found-blocked : (r : RunView) (certificates : Vec Certificate Global) → r.play.program ≡ program → r.left ≡ [] → r.play.weak.state.active ≡ None
+  pub found-blocked : (r : CourseView) (certificates : Vec Certificate Global) → r.play.program ≡ program → r.left ≡ [] → r.play.weak.state.active ≡ None
       → (length (pool r.play.weak.state) ≡ 0 → ⊥) → candidates r.play.weak r.aside ≡ []
       → (IsRunning r → AllByRecursion (λ c. fails_after r.play.weak.state c.number c.steps c.fresh ≡ true) certificates.items)
       → ((i : ℕ) → i < r.play.weak.state.next → is_some (at (pool r.play.weak.state) i) ≡ true → list_any (λ c. c.number == i) certificates.items ≡ true)
@@ -292,7 +296,7 @@ pub absent-so : {X : Type 0} (f : X → Tree) (o : Option X) (w v : Weak) (n : �
 absent-so f None w v n b found same is there = ap (λ (z : Weak). is_some (at (pool z.state) n)) (sym same) ∙ ap is_some (sym found)
 absent-so f (Some x) w v n b found same is there = absurd (let clash : true ≡ false = is ∙ ap not there in cc)
 
-pub certified-none : (r : RunView) (certificates : List Certificate) → certificates ≡ [] → AreCertified r 0 certificates
+pub certified-none : (r : CourseView) (certificates : List Certificate) → certificates ≡ [] → AreCertified r 0 certificates
 certified-none r certificates none = record {
   fail = λ running. subst (AllByRecursion (λ c. fails_after r.play.weak.state c.number c.steps c.fresh ≡ true)) (sym none) tt;
   all = λ i below there. absurd (omega (arith, below));

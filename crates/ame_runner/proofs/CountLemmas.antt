@@ -8,15 +8,15 @@ use Rattle.ame_term.specs.declared.semantics.StepKind.{StepKind}
 use Rattle.ame_term.specs.declared.semantics.Label.{Label}
 use Rattle.ame_journal.specs.Labels.{made_by, fragment_labels}
 use Rattle.ame_weak.specs.Weak.{Weak, IsWeakRun}
-use Rattle.ame_weak.specs.Tries.{HoldsIn}
 use Rattle.ame_weak.specs.declared.tries.Try.{Try}
 use Rattle.ame_runner.specs.Labels.{label_location, behind_location, location_above}
 use Rattle.ame_runner.specs.Play.{PlayView, IsPlayedWeakly}
 use Rattle.ame_runner.specs.Trial.{AreNext, last_turn, is_failure}
 use Rattle.ame_runner.specs.declared.trial.Outcome.{Outcome}
+use Rattle.ame_runner.specs.Within.{HoldsWithin}
 use Rattle.ame_runner.specs.Notes.{IsAsideSince, AreKept}
 use Rattle.ame_runner.specs.Freeing.{MakesOnly}
-use Rattle.ame_runner.specs.Run.{RunView, turns_of_tries, IsOwn, AreSettled, AreFailedTries, IsCutNow, IsRunning, HasRun}
+use Rattle.ame_runner.specs.Run.{CourseView, turns_of_tries, IsOwn, AreSettled, AreFailedTries, IsCutNow, IsRunning, HasRun}
 use Rattle.ame_runner.proofs.NoteLemmas.{all-more, kept-try}
 use Rattle.ame_runner.proofs.RunLemmas.{kept-on, settled-on}
 
@@ -57,7 +57,7 @@ counted-next a (kind ∷ kinds) b is = counted-where a kind kinds b (λ c rest. 
 -- Turns
 
 -- as long as turns are left, no try was cut off
-all-failed : (r : RunView) → IsRunning r → r.turns < r.limit → AreFailedTries r.tries
+all-failed : (r : CourseView) → IsRunning r → r.turns < r.limit → AreFailedTries r.tries
 all-failed r x more = elim x.cut [ inl failing ↦ failing | inr now ↦ absurd (let all = now.used in omega (arith, all, more)) ]
 
 only-low : (l : ℕ) (label : Label) → MakesOnly l label → behind_location (label_location label) ≤ l + 1
@@ -68,7 +68,7 @@ only-low l label only = by (label_location label) refl
     by (Some m) is = let some : behind_location (label_location label) ≡ m + 1 = ap behind_location is in let same = only m is in omega (arith, some, same)
 
 -- a label that is counted, which makes the least location or none
-pub runs-counted : (r m q : RunView) (label : Label) → IsRunning r → HasRun label r m → MakesOnly r.above label → r.turns < r.limit
+pub runs-counted : (r m q : CourseView) (label : Label) → IsRunning r → HasRun label r m → MakesOnly r.above label → r.turns < r.limit
     → q ≡ record m { above = max m.above m.play.above; turns = m.turns + 1 } → IsRunning q
 runs-counted r m q label x h fresh more is = subst IsRunning (sym is) (record {
   played = h.played x.played;
@@ -97,7 +97,7 @@ or-there true b e = refl
 or-there false b e = e
 
 -- a fragment was tried, and came to nothing
-pub runs-noted : (r q : RunView) (u : Try) → IsRunning r → r.play.weak.state.active ≡ None → u.after ≡ length r.play.labels → HoldsIn r.play.weak u
+pub runs-noted : (r q : CourseView) (u : Try) → IsRunning r → r.play.weak.state.active ≡ None → u.after ≡ length r.play.labels → HoldsWithin r.play.weak u
     → (u.failing ≡ true → r.aside u.certificate.number ≡ false) → ((i : ℕ) → q.aside i ≡ ((u.failing && (u.certificate.number == i)) || r.aside i))
     → q.play ≡ r.play → q.tries ≡ r.tries ++ u ∷ [] → q.left ≡ r.left → q.above ≡ r.above → q.turns ≡ r.turns + (u.certificate.steps + 1) → q.turns ≤ q.limit → r.turns < r.limit → r.left ≡ []
     → (u.failing ≡ true) ⊎ (q.turns ≡ q.limit) → IsRunning q
@@ -134,8 +134,8 @@ runs-noted r q u x idle last holds free put play tries left above turns within m
       used = used;
     }
 
-    here : (w : Weak) → IsWeakRun r.play.program r.play.labels w → HoldsIn w u
-    here w leads = let same : r.play.weak ≡ w = (let both : ◌≡◌ {A = Option Weak} (Some r.play.weak) (Some w) = sym x.played.leads ∙ leads in cc) in subst (λ (z : Weak). HoldsIn z u) same holds
+    here : (w : Weak) → IsWeakRun r.play.program r.play.labels w → HoldsWithin w u
+    here w leads = let same : r.play.weak ≡ w = (let both : ◌≡◌ {A = Option Weak} (Some r.play.weak) (Some w) = sym x.played.leads ∙ leads in cc) in subst (λ (z : Weak). HoldsWithin z u) same holds
 
     now : u.failing ≡ true → q.aside u.certificate.number ≡ true
     now failing =
@@ -159,7 +159,7 @@ steps-length [] = refl
 steps-length (kind ∷ kinds) = ap suc (steps-length kinds)
 
 -- a fragment was tried that leaves or ends, and is to be made
-pub runs-begun : (r q : RunView) (i : ℕ) (kinds : List StepKind) (last : Label) → IsRunning r → AreNext r.above (made_by kinds) q.above → behind_location (label_location last) ≡ 0 → IsOwn last
+pub runs-begun : (r q : CourseView) (i : ℕ) (kinds : List StepKind) (last : Label) → IsRunning r → AreNext r.above (made_by kinds) q.above → behind_location (label_location last) ≡ 0 → IsOwn last
     → q.play ≡ r.play → q.tries ≡ r.tries → ((i : ℕ) → q.aside i ≡ r.aside i) → q.left ≡ r.left ++ (fragment_labels i kinds ++ last ∷ []) → q.turns ≡ r.turns + (length kinds + 2)
     → q.turns ≤ q.limit → r.turns < r.limit → IsRunning q
 runs-begun r q i kinds last x next none own play tries aside left turns within more =

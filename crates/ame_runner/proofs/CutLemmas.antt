@@ -8,7 +8,7 @@ use Rattle.ame_term.specs.declared.semantics.Label.{Label}
 use Rattle.ame_weak.specs.Tries.{AreTriesInOrder}
 use Rattle.ame_weak.specs.declared.tries.Try.{Try}
 use Rattle.ame_runner.specs.Notes.{AreSetApart, AreSpaced, HoldsAfter, IsAsideSince, without_cut}
-use Rattle.ame_runner.specs.Run.{RunView, AreFailedTries, CutAt, CanBeEnded}
+use Rattle.ame_runner.specs.Run.{CourseView, AreFailedTries, CutAt, CanBeEnded}
 
 by-failing : (X : List Try → Type 0) (t : Try) → X (t ∷ []) → X [] → (b : Bool) → X (if b then t ∷ [] else [])
 by-failing X t one none true = one
@@ -29,7 +29,7 @@ spaced-without labels [] spaced = tt
 spaced-without labels (t ∷ []) spaced = by-failing (AreSpaced labels) t spaced tt t.failing
 spaced-without labels (t ∷ u ∷ ts) spaced = (all-without (AreSetApart labels t) (u ∷ ts) spaced.0, spaced-without labels (u ∷ ts) spaced.1)
 
--- behind others
+-- the last one, after others
 pub without-last : (ts : List Try) (t : Try) → without_cut (ts ++ t ∷ []) ≡ (if t.failing then ts ++ t ∷ [] else ts)
 without-last [] t = refl
 without-last (u ∷ []) t = by t.failing
@@ -118,10 +118,10 @@ failed-without n ts (inr cut) =
     by true is = push cut.front cut.failing is
     by false is = cut.failing
 
-abbrev pub without : RunView → RunView
+abbrev pub without : CourseView → CourseView
 without r = record r { tries = without_cut r.tries }
 
-module _ (r : RunView) (x : CanBeEnded r) where
+module _ (r : CourseView) (x : CanBeEnded r) where
   pub failed-left : AreFailedTries (without_cut r.tries)
   failed-left = failed-without r.play.settled r.tries x.cut
 

@@ -1,4 +1,4 @@
--- What devices hear along the labels of a run.
+-- The calls that devices hear along the labels of a run.
 use Rattle.std.proofs.Common.{◌≡◌, ℕ, inl, inr, List, [], ◌∷◌, ◌++◌, Option, Some, None, option_and_then, append_assoc, append-nil, refl, sym, ap, ◌∙◌, subst}
 use Rattle.std.specs.Prelude.{ℤ}
 use Rattle.std.proofs.lemmas.Option.{option_and_then_some}
@@ -59,7 +59,7 @@ none-else : {X : Type 0} (o : Option X) (P : Type 0) → (o ≡ None → P) → 
 none-else None P none some = none refl
 none-else (Some x) P none some = some x refl
 
--- a member that is told to call a device stands at the call
+-- a member whose next step is the call of a device stands at that call
 call-act : (s : State) (i device : ℕ) (argument : ℤ) → TellsOfMember s i (next_of s (Some i)) → next_of s (Some i) ≡ next.Device device argument
     → member_act i s ≡ Some (Act.Calls device argument)
 unfolding act_of
@@ -97,7 +97,7 @@ module _ (devices : ℕ) (places : List ℕ) (program : Tree) (refs : List Typ) 
           (λ k. device-more k ∙ ap (λ cs. device_calls k program (straight labels) ++ cs)
           (ap (label_call k w.state) c.is ∙ ap (call_at k (Some c.answer)) act)) h
 
--- no device failed, where one answered
+-- no device failed, if one answered
 pub none-failed : (w : Weak) (i : ℕ) (before after : List Told) (label : Label) → HasCalledFor w i before after label → NoneFailed before after
 none-failed w i before after label (inl is) = λ k. ap (λ (ts : List Told). (told_at ts k).faults) is.1
 none-failed w i before after label (inr is) = called-faults before after is.0 is.1.argument is.1.answer is.1.called

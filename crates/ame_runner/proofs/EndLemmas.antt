@@ -1,5 +1,5 @@
--- A run is told up to the last moment with nothing active.
-use Rattle.std.proofs.Common.{◌≡◌, ℕ, zero, suc, ◌+◌, ◌≤◌, ◌++◌, inl, List, [], ◌∷◌, length, take, drop, Option, Some, refl, sym, ap, ◌∙◌, subst, arith}
+-- The report of a run goes up to the last moment with nothing active.
+use Rattle.std.proofs.Common.{◌≡◌, ℕ, zero, suc, ◌+◌, ◌≤◌, ◌++◌, inl, inr, List, [], ◌∷◌, length, take, drop, Option, Some, refl, sym, ap, ◌∙◌, subst, arith}
 use Rattle.std.specs.List.{AllByRecursion}
 use Rattle.std.proofs.lemmas.List.{take_all}
 use Rattle.ame_term.specs.Tree.{Tree}
@@ -10,15 +10,16 @@ use Rattle.ame_weak.specs.declared.tries.Try.{Try}
 use Rattle.ame_runner.specs.Labels.{location_above}
 use Rattle.ame_weak.specs.Bounds.{AreWithinBounds}
 use Rattle.ame_runner.specs.Play.{PlayView}
+use Rattle.ame_runner.specs.Within.{IsTriedWithinAt}
 use Rattle.ame_runner.specs.Notes.{HasChange, AreSetApart, AreSpaced, HoldsAfter, without_cut}
 use Rattle.ame_device.specs.declared.told.Told.{Told}
 use Rattle.ame_shell.specs.Heard.{HaveHeard}
 use Rattle.ame_shell.proofs.HeardLemmas.{heard-nothing}
 use Rattle.ame_journal.specs.Totals.{total_steps}
 use Rattle.ame_weak.specs.Straight.{straight, outset}
-use Rattle.ame_runner.specs.Run.{RunView, turns_of_tries, AreFailedTries, IsRunning, CanBeEnded, IsAtStart, KeepsFrame}
+use Rattle.ame_runner.specs.Run.{CourseView, turns_of_tries, AreFailedTries, IsRunning, CanBeEnded, IsAtStart, KeepsFrame}
 use Rattle.ame_runner.specs.Stop.{HasWeakCause, FailsBy, HeardSoFar, HasStoppedWeakly, RunsUntil}
-use Rattle.ame_runner.specs.Ended.{EndTries, IsWeakRunOf, notes_of_stop, IsToldBy, TellsStop}
+use Rattle.ame_runner.specs.Ended.{EndTries, IsWeakRunOf, notes_of_stop, IsCounted, IsToldBy, TellsStop}
 use Rattle.ame_runner.specs.declared.stop.WeakStop.{WeakStop}
 use Rattle.ame_runner.proofs.RunLemmas.{running-ends}
 use Rattle.ame_runner.proofs.TotalLemmas.{turns-told, both-steps, one-step}
@@ -59,7 +60,13 @@ module _ (program : Tree) (labels : List Label) (k : ℕ) where
   tried-taken t holds few = λ front rest w parts count leads.
       let same : take t.after labels ≡ front =
       sym (taken-twice t.after k labels few) ∙ ap (take t.after) parts ∙ ap (λ n. take n (front ++ rest)) (sym count) ∙ front-taken front rest in
-      holds w (subst (λ ls. IsWeakRun program ls w) (sym same) leads)
+      (holds w (subst (λ ls. IsWeakRun program ls w) (sym same) leads)).0
+
+  within-tried : (t : Try) → HoldsAfter program labels t → t.after ≤ k → IsTriedWithinAt program (take k labels) t
+  within-tried t holds few = λ front rest w parts count leads.
+      let same : take t.after labels ≡ front =
+      sym (taken-twice t.after k labels few) ∙ ap (take t.after) parts ∙ ap (λ n. take n (front ++ rest)) (sym count) ∙ front-taken front rest in
+      (holds w (subst (λ ls. IsWeakRun program ls w) (sym same) leads)).1
 
   spaced-taken : (ts : List Try) → AllByRecursion (λ t. t.after ≤ k) ts → AreSpaced labels ts → AreSpaced (take k labels) ts
   spaced-taken [] few spaced = tt
@@ -69,7 +76,7 @@ module _ (program : Tree) (labels : List Label) (k : ℕ) where
     spaced-taken ts few.1 spaced.1,
   )
 
-pub ended-run : (r : RunView) (stop : WeakStop) → CanBeEnded r → EndTries stop r.play.settled r.tries
+pub ended-run : (r : CourseView) (stop : WeakStop) → CanBeEnded r → EndTries stop r.play.settled r.tries
     → IsWeakRunOf r.play.program r.limit (take r.play.settled r.play.labels) r.tries stop
 ended-run r stop x few_cut =
     let s = x.played.settled in
@@ -82,49 +89,67 @@ ended-run r stop x few_cut =
       tried =
           all-with (HoldsAfter r.play.program r.play.labels) (λ t. t.after ≤ r.play.settled) (IsTried r.play.program (take r.play.settled r.play.labels))
           (tried-taken r.play.program r.play.labels r.play.settled) r.tries x.kept.hold x.settled;
+      tried_within =
+          all-with (HoldsAfter r.play.program r.play.labels) (λ t. t.after ≤ r.play.settled) (IsTriedWithinAt r.play.program (take r.play.settled r.play.labels))
+          (within-tried r.play.program r.play.labels r.play.settled) r.tries x.kept.hold x.settled;
       last = subst (λ (m : ℕ). EndTries stop m r.tries) (sym count) few_cut;
       spaced = spaced-taken r.play.program r.play.labels r.play.settled r.tries x.settled x.kept.spaced;
     }
 
 -- A run that has stopped
 
--- what is so of the turns where it stops
-record IsPaid (stop : WeakStop) (r : RunView) : Type 0 where
+-- the turns of a run that stops
+record IsPaid (stop : WeakStop) (r : CourseView) : Type 0 where
   turns : ℕ
   before : IsRunning (record r { turns = turns })
   within : r.turns ≤ r.limit
   told : r.turns ≤ length r.play.labels + turns_of_tries r.tries + total_steps (notes_of_stop stop)
+  counted : IsCounted stop (length r.play.labels + turns_of_tries r.tries) r.turns
 
-paid-running : (stop : WeakStop) (r : RunView) → IsRunning r → r.left ≡ [] → IsPaid stop r
-paid-running stop r x none = record {
+paid-running : (stop : WeakStop) (r : CourseView)
+    → (r.turns ≡ length r.play.labels + turns_of_tries r.tries → IsCounted stop (length r.play.labels + turns_of_tries r.tries) r.turns) → IsRunning r → r.left ≡ []
+    → IsPaid stop r
+paid-running stop r same x none = record {
   turns = r.turns;
   before = x;
   within = x.within;
-  told = let counted = x.counted in let left : length r.left ≡ 0 = ap length none in omega (arith, counted, left);
+  told = omega (arith, all);
+  counted = same all;
 }
+  where
+    all : r.turns ≡ length r.play.labels + turns_of_tries r.tries
+    all = let counted = x.counted in let left : length r.left ≡ 0 = ap length none in omega (arith, counted, left)
 
-paid-until : (stop : WeakStop) (r : RunView) → RunsUntil (Some stop) r → r.left ≡ [] → IsPaid stop r
-paid-until WeakStop.Finished r x none = paid-running WeakStop.Finished r x none
-paid-until (WeakStop.Blocked certificates) r x none = paid-running (WeakStop.Blocked certificates) r x none
-paid-until WeakStop.Spent r x none = paid-running WeakStop.Spent r x none
-paid-until (WeakStop.DeviceFault device) r x none = paid-running (WeakStop.DeviceFault device) r x none
-paid-until WeakStop.NoMemory r x none = paid-running WeakStop.NoMemory r x none
+paid-until : (stop : WeakStop) (r : CourseView) → RunsUntil (Some stop) r → r.left ≡ [] → IsPaid stop r
+paid-until WeakStop.Finished r x none = paid-running WeakStop.Finished r (λ e. e) x none
+paid-until (WeakStop.Blocked certificates) r x none = paid-running (WeakStop.Blocked certificates) r (λ e. e) x none
+paid-until WeakStop.Spent r x none = paid-running WeakStop.Spent r (λ e. e) x none
+paid-until (WeakStop.DeviceFault device) r x none = paid-running (WeakStop.DeviceFault device) r (λ e. e) x none
+paid-until WeakStop.NoMemory r x none = paid-running WeakStop.NoMemory r (λ e. e) x none
 paid-until (WeakStop.Tall entry) r x none = record {
   turns = x.turns;
   before = x.before;
   within = x.within;
-  told =
-      let counted : x.turns ≡ length r.play.labels + length r.left + turns_of_tries r.tries = x.before.counted in
-      let left : length r.left ≡ 0 = ap length none in
-      let note = one-step entry in
-      let more = x.more in
-      omega (arith, counted, left, note, more);
+  told = let note = one-step entry in elim x.more [
+    | inl same ↦ omega (arith, all, same)
+    | inr more ↦ omega (arith, all, note, more)
+  ];
+  counted = elim x.more [
+    | inl same ↦ inl (same ∙ all)
+    | inr more ↦ inr (more ∙ ap (λ (n : ℕ). n + (entry.steps + 1)) all)
+  ];
 }
+  where
+    all : x.turns ≡ length r.play.labels + turns_of_tries r.tries
+    all =
+        let counted : x.turns ≡ length r.play.labels + length r.left + turns_of_tries r.tries = x.before.counted in
+        let left : length r.left ≡ 0 = ap length none in
+        omega (arith, counted, left)
 
-ends-turned : (r : RunView) (n : ℕ) → IsRunning (record r { turns = n }) → CanBeEnded r
+ends-turned : (r : CourseView) (n : ℕ) → IsRunning (record r { turns = n }) → CanBeEnded r
 ends-turned r n x = let e = running-ends (record r { turns = n }) x in record { played = e.played; kept = e.kept; settled = e.settled; few = e.few; cut = e.cut }
 
-pub until-ends : (stop : WeakStop) (r : RunView) → RunsUntil (Some stop) r → CanBeEnded r
+pub until-ends : (stop : WeakStop) (r : CourseView) → RunsUntil (Some stop) r → CanBeEnded r
 until-ends WeakStop.Finished r x = running-ends r x
 until-ends (WeakStop.Blocked certificates) r x = running-ends r x
 until-ends WeakStop.Spent r x = running-ends r x
@@ -132,7 +157,7 @@ until-ends (WeakStop.DeviceFault device) r x = running-ends r x
 until-ends WeakStop.NoMemory r x = running-ends r x
 until-ends (WeakStop.Tall entry) r x = ends-turned r x.turns x.before
 
-module _ (r : RunView) (stop : WeakStop) (y : IsPaid stop r) (stopped : HasStoppedWeakly stop r) where
+module _ (r : CourseView) (stop : WeakStop) (y : IsPaid stop r) (stopped : HasStoppedWeakly stop r) where
   x : IsRunning (record r { turns = y.turns })
   x = y.before
 
@@ -156,6 +181,7 @@ module _ (r : RunView) (stop : WeakStop) (y : IsPaid stop r) (stopped : HasStopp
     };
     fails = fails;
     within = y.within;
+    counted = y.counted;
   })
 
 pub stops-as : (program : Tree) (limit : ℕ) (labels : List Label) (tries : List Try) (turns : ℕ) (before after : List Told) (stop : WeakStop)
@@ -175,7 +201,7 @@ all-failed-so (WeakStop.DeviceFault device) n tries all = all
 all-failed-so (WeakStop.Tall entry) n tries all = all
 all-failed-so WeakStop.NoMemory n tries all = all
 
--- where there was no memory to begin
+-- a run that had no memory to begin
 pub none-run : (program : Tree) (limit : ℕ) → IsWeakRunOf program limit [] [] WeakStop.NoMemory
 none-run program limit = record {
   ends = record { weak = weak_start program; leads = refl; active = refl };
@@ -183,6 +209,7 @@ none-run program limit = record {
   below = omega arith;
   order = tt;
   tried = tt;
+  tried_within = tt;
   last = tt;
   spaced = tt;
 }
@@ -194,15 +221,15 @@ not-begun program limit labels tries stop none untried lacking =
     (subst (λ (ts : List Try). IsWeakRunOf program limit [] ts stop) (sym untried)
     (subst (λ (why : WeakStop). IsWeakRunOf program limit [] [] why) (sym lacking) (none-run program limit)))
 
--- where memory was wanted nothing more is told
+-- nothing more is promised when out of memory
 pub tells-nothing : (program : Tree) (limit : ℕ) (labels : List Label) (tries : List Try) (turns : ℕ) (before after : List Told) (stop : WeakStop) → stop ≡ WeakStop.NoMemory
     → TellsStop program limit labels tries turns before after stop
 tells-nothing program limit labels tries turns before after stop lacking =
     subst (λ (why : WeakStop). TellsStop program limit labels tries turns before after why) (sym lacking) tt
 
--- What is told of a run that ends
+-- The report of a run that ends
 
-module _ (r : RunView) (labels : List Label) (tries : List Try) (stop : WeakStop) (are : labels ≡ take r.play.settled r.play.labels) where
+module _ (r : CourseView) (labels : List Label) (tries : List Try) (stop : WeakStop) (are : labels ≡ take r.play.settled r.play.labels) where
   ended-as : (ts : List Try) → tries ≡ ts → IsWeakRunOf r.play.program r.limit (take r.play.settled r.play.labels) ts stop
       → IsWeakRunOf r.play.program r.limit labels tries stop
   ended-as ts same is =
@@ -220,7 +247,7 @@ module _ (r : RunView) (labels : List Label) (tries : List Try) (stop : WeakStop
   ended-without x same =
       ended-as (without_cut r.tries) same (ended-run (without r) stop (ends-without r x) (all-failed-so stop r.play.settled (without_cut r.tries) (failed-left r x)))
 
-  -- where it has stopped
+  -- of a run that has stopped
   pub told-whole : (turns : ℕ) (why : WeakStop) → RunsUntil (Some why) r → HasStoppedWeakly why r → tries ≡ r.tries → turns ≡ r.turns → stop ≡ why → (before now : List Told)
       → HeardSoFar r before now → FailsBy (Some why) before now → TellsStop r.play.program r.limit labels tries turns before now stop
   told-whole turns why x stopped same count is before now heard fails =
@@ -231,7 +258,7 @@ module _ (r : RunView) (labels : List Label) (tries : List Try) (stop : WeakStop
       (stops-as r.play.program r.limit (take r.play.settled r.play.labels) r.tries r.turns before now why (told-by r why (paid-until why r x stopped.none) stopped before now heard fails)))))
 
 -- the program and the limit stay
-module _ (r q : RunView) (frame : KeepsFrame r q) where
+module _ (r q : CourseView) (frame : KeepsFrame r q) where
   pub run-over : (labels : List Label) (tries : List Try) (stop : WeakStop) → IsWeakRunOf q.play.program q.limit labels tries stop
       → IsWeakRunOf r.play.program r.limit labels tries stop
   run-over labels tries stop is =
@@ -245,7 +272,7 @@ module _ (r q : RunView) (frame : KeepsFrame r q) where
       (subst (λ (m : ℕ). TellsStop q.play.program m labels tries turns before after stop) frame.limit is)
 
 -- of a run from its start
-module _ (program : Tree) (limit : ℕ) (r : RunView) (start : IsAtStart program limit r) where
+module _ (program : Tree) (limit : ℕ) (r : CourseView) (start : IsAtStart program limit r) where
   same-program : r.play.program ≡ program
   same-program = ap (λ (p : PlayView). p.program) start.play
 

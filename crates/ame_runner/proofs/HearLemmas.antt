@@ -1,4 +1,4 @@
--- What devices have heard, when a run goes on.
+-- The calls that devices have heard when a run goes on.
 use Rattle.std.proofs.Common.{◌≡◌, ℕ, ◌++◌, List, [], ◌∷◌, Option, Some, None, Result, Ok, Err, refl, sym, ◌∙◌, subst}
 use Rattle.std.specs.Prelude.{OnOk}
 use Rattle.ame_term.specs.Tree.{Typ, Tree}
@@ -12,9 +12,9 @@ use Rattle.ame_weak.specs.Straight.{straight}
 use Rattle.ame_shell.specs.Ends.{told_at}
 use Rattle.ame_shell.specs.Heard.{HaveHeard, NoneFailed}
 use Rattle.ame_io.specs.Counts.{HasRisen}
-use Rattle.ame_runner.specs.Play.{PlayView, IsPlayedWeakly, HasMade}
+use Rattle.ame_runner.specs.Play.{PlayView, IsPlayedWeakly, HasMadeLabel}
 use Rattle.ame_runner.specs.Freeing.{HasCalledFor}
-use Rattle.ame_runner.specs.Run.{RunView, IsOwn, IsRunning}
+use Rattle.ame_runner.specs.Run.{CourseView, IsOwn, IsRunning}
 use Rattle.ame_runner.specs.Stop.{FailsBy, HearsOn}
 use Rattle.ame_runner.specs.declared.stop.WeakStop.{WeakStop}
 use Rattle.ame_runner.proofs.DeviceLemmas.{own-silent, heard-still, heard-more}
@@ -24,7 +24,7 @@ ok-then (Ok x) P Q f p = f p
 ok-then (Err e) P Q f p = p
 
 module _ (devices : ℕ) (places : List ℕ) (program : Tree) (refs : List Typ) (accepts : Accepts devices places program refs) (source : IsSourceTerm program) (numbered : IsNumbered 0 program) where
-  module _ (r q : PlayView) (label : Label) (made : HasMade label r q) (is : r.program ≡ program) (played : IsPlayedWeakly r) (opened now : List Told)
+  module _ (r q : PlayView) (label : Label) (made : HasMadeLabel label r q) (is : r.program ≡ program) (played : IsPlayedWeakly r) (opened now : List Told)
       (heard : HaveHeard r.program (straight r.labels) opened now) where
     leads : weak_run (weak_start program) r.labels ≡ Some r.weak
     leads = subst (λ (t : Tree). weak_run (weak_start t) r.labels ≡ Some r.weak) is played.leads
@@ -64,11 +64,11 @@ fails-then (Some (WeakStop.DeviceFault device)) a b c first second = record {
 }
 
 -- nothing is made
-pub hears-still : (r q : RunView) (told : List Told) → q.play ≡ r.play → HearsOn None r q told told
+pub hears-still : (r q : CourseView) (told : List Told) → q.play ≡ r.play → HearsOn None r q told told
 hears-still r q told same = λ opened running heard. (subst (λ (p : PlayView). HaveHeard p.program (straight p.labels) opened told) (sym same) heard, λ k. refl)
 
 -- one after the other
-pub hears-then : (stop : Option WeakStop) (r m q : RunView) (before now after : List Told) → HearsOn None r m before now → (IsRunning r → IsRunning m) → HearsOn stop m q now after
+pub hears-then : (stop : Option WeakStop) (r m q : CourseView) (before now after : List Told) → HearsOn None r m before now → (IsRunning r → IsRunning m) → HearsOn stop m q now after
     → HearsOn stop r q before after
 hears-then stop r m q before now after first runs second = λ opened running heard.
     let a = first opened running heard in

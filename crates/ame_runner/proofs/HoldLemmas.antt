@@ -1,5 +1,5 @@
--- What was tried on a copy could happen here.
-use Rattle.std.proofs.Common.{◌≡◌, ℕ, suc, ◌+◌, ◌==◌, ◌++◌, Bool, true, false, List, [], ◌∷◌, length, map, Option, Some, None, is_some, if◌then◌else◌, refl, sym, ap, ◌∙◌, subst, arith, append-nil, append_assoc}
+-- A fragment that was tried on a copy could run here.
+use Rattle.std.proofs.Common.{◌≡◌, ℕ, suc, ◌+◌, ◌==◌, ◌++◌, inr, Bool, true, false, List, [], ◌∷◌, length, map, Option, Some, None, is_some, if◌then◌else◌, refl, sym, ap, ◌∙◌, subst, arith, append-nil, append_assoc}
 use Rattle.std.proofs.lemmas.Option.{option_and_then_some}
 use Rattle.ame_term.specs.Tree.{Typ, Tree}
 use Rattle.ame_term.specs.Signature.{Signature, listed}
@@ -37,6 +37,7 @@ use Rattle.ame_weak.proofs.Follow.{IsFollowed}
 use Rattle.ame_weak.proofs.StraightLemmas.{past_all, follow-labels, ends-strong, begun-followed}
 use Rattle.ame_journal.specs.Labels.{fragment_labels}
 use Rattle.ame_runner.specs.Tall.{tall_note, IsTallIn, IsTallOf}
+use Rattle.ame_runner.specs.Within.{AreMadeWithin, IsTriedWithin, IsReachedWithin}
 use Rattle.ame_runner.specs.Trial.{IsTrial, StandsAs, IsTriedOut, is_failure, IsTryOf}
 use Rattle.ame_runner.specs.declared.trial.Outcome.{Outcome}
 use Rattle.ame_runner.specs.declared.trial.TriedOut.{TriedOut}
@@ -129,7 +130,7 @@ module _ (devices : ℕ) (places : List ℕ) (program : Tree) (refs : List Typ) 
             ∙ holds,
       )
 
-  -- a fragment that came to a value that would be too high comes to it here, as its note tells
+  -- a fragment that came to a value that would be too high comes to it here, as its note says
   pub tried_grow_tall : (labels : List Label) (w : Weak) (i first turns : ℕ) (a : TriedOut) (entry : Entry) → weak_run (weak_start program) labels ≡ Some w
       → AreWithinBounds (weak_start program) labels → w.state.active ≡ None → IsTriedOut w i first turns a → a.outcome ≡ Outcome.Tall → IsTallOf i a entry → IsTallIn w.state entry
   tried_grow_tall labels w i first turns a entry e within idle tried outcome is =
@@ -140,6 +141,21 @@ module _ (devices : ℕ) (places : List ℕ) (program : Tree) (refs : List Typ) 
       let high = active_tall tried.behind i low way.laid.active grows in
       subst (IsTallIn w.state) (sym is)
       (record { note = refl; comes = way-tall (listed devices refs) w.state i (length a.kinds.items) (made_by a.kinds.items) tried.behind way high })
+
+-- Steps within the bounds
+
+module _ (w : Weak) (i first turns : ℕ) (a : TriedOut) (tried : IsTriedOut w i first turns a) where
+  made-within : AreMadeWithin w i (length a.kinds.items) (made_by a.kinds.items)
+  made-within = record { kinds = a.kinds.items; reached = tried.behind; leads = tried.is.leads; within = tried.is.within; steps = refl; made = refl }
+
+  pub tried-within : (t : Try) → IsTryOf i a t → IsTriedWithin w t
+  tried-within t is =
+      subst (λ (k : ℕ). AreMadeWithin w k t.certificate.steps t.certificate.fresh) (sym is.number)
+      (subst (λ (n : ℕ). AreMadeWithin w i n t.certificate.fresh) (sym is.steps)
+      (subst (AreMadeWithin w i (length a.kinds.items)) (sym is.fresh) made-within))
+
+  pub tall-within : (entry : Entry) → IsTallOf i a entry → IsReachedWithin w entry
+  tall-within entry is = inr (subst (λ (e : Entry). AreMadeWithin w e.number e.steps e.fresh) (sym is) made-within)
 
 -- a member that is about to become such a value on the unprotected side stands there
 tall-stands : (i : ℕ) (s : State) → is_tall Side.Unprotected i s ≡ true → is_at_unprotected i s ≡ true

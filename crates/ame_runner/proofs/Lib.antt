@@ -8,6 +8,7 @@ pub mod CountLemmas
 pub mod DeviceLemmas
 pub mod HearLemmas
 pub mod ChooseLemmas
+pub mod DrawLemmas
 pub mod TotalLemmas
 pub mod CutLemmas
 pub mod EndLemmas

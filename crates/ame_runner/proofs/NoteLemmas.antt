@@ -7,8 +7,9 @@ use Rattle.std.proofs.lemmas.List.Folds.{list_any-append}
 use Rattle.ame_term.specs.Tree.{Tree}
 use Rattle.ame_term.specs.declared.semantics.Label.{Label}
 use Rattle.ame_weak.specs.Weak.{Weak, IsWeakRun}
-use Rattle.ame_weak.specs.Tries.{HoldsIn, AreTriesInOrder}
+use Rattle.ame_weak.specs.Tries.{AreTriesInOrder}
 use Rattle.ame_weak.specs.declared.tries.Try.{Try}
+use Rattle.ame_runner.specs.Within.{HoldsWithin}
 use Rattle.ame_runner.specs.Notes.{lets_try_again, HasChange, AreSetApart, AreSpaced, HoldsAfter, IsAsideSince, AreKept}
 
 pub all-with : {X : Type 0} (P Q R : X → Type 0) → ((x : X) → P x → Q x → R x) → (xs : List X) → AllByRecursion P xs → AllByRecursion Q xs → AllByRecursion R xs
@@ -78,7 +79,7 @@ module _ (program : Tree) (labels : List Label) (aside : ℕ → Bool) (ts : Lis
       by (inl put) = inl (same t.certificate.number ∙ put)
       by (inr change) = inr (changed-still labels label t.after few change)
 
-  -- a label is made, by which nobody is put aside any more, or the same members still
+  -- a label is made, after which no member is put aside any more, or the same members still are
   pub kept-label : (label : Label) (later : ℕ → Bool) → (lets_try_again label ≡ true) ⊎ ((i : ℕ) → later i ≡ aside i) → AreKept program (labels ++ label ∷ []) later ts
   kept-label label later how = record {
     order = order-later 0 (length labels) (length (labels ++ label ∷ [])) ts (let long : length (labels ++ label ∷ []) ≡ length labels + 1 = length-append labels (label ∷ []) in omega arith) kept.order;
@@ -93,7 +94,7 @@ module _ (program : Tree) (labels : List Label) (aside : ℕ → Bool) (ts : Lis
   false-true b is not = let clash : true ≡ false = sym is ∙ not in cc
 
   -- a try is added of a member that isn't put aside; if it fails, the member is put aside
-  pub kept-try : (u : Try) (later : ℕ → Bool) → u.after ≡ length labels → ((w : Weak) → IsWeakRun program labels w → HoldsIn w u)
+  pub kept-try : (u : Try) (later : ℕ → Bool) → u.after ≡ length labels → ((w : Weak) → IsWeakRun program labels w → HoldsWithin w u)
       → (u.failing ≡ true → aside u.certificate.number ≡ false) → ((i : ℕ) → aside i ≡ true → later i ≡ true) → (u.failing ≡ true → later u.certificate.number ≡ true)
       → AreKept program labels later (ts ++ u ∷ [])
   kept-try u later last holds free grows put = record {

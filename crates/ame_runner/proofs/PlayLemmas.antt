@@ -7,7 +7,7 @@ use Rattle.ame_term.specs.declared.semantics.Label.{Label}
 use Rattle.ame_weak.specs.Weak.{Weak, weak_start, weak_after, weak_run, IsWeakRun}
 use Rattle.ame_weak.specs.Bounds.{IsWithinBounds, AreWithinBounds}
 use Rattle.ame_runner.specs.Labels.{label_location, behind_location, location_above}
-use Rattle.ame_runner.specs.Play.{PlayView, IsSettledAfter, IsPlayedWeakly, HasMade}
+use Rattle.ame_runner.specs.Play.{PlayView, IsSettledAfter, IsPlayedWeakly, HasMadeLabel}
 
 pub run-more : (w v u : Weak) (xs : List Label) (y : Label) → weak_run w xs ≡ Some v → weak_after v y ≡ Some u → weak_run w (xs ++ y ∷ []) ≡ Some u
 run-more w v u [] y e f =
@@ -39,7 +39,7 @@ within-more w v [] y all e within = let same : w ≡ v = cc in (subst (λ z. IsW
 within-more w v (x ∷ xs) y all e within = (all.0, λ u first. within-more u v xs y (all.1 u first) (sym (ap (option_and_then (λ z. weak_run z xs)) first) ∙ e) within)
 
 -- one label more
-pub played-made : (p q : PlayView) (label : Label) → IsPlayedWeakly p → HasMade label p q → IsPlayedWeakly q
+pub played-made : (p q : PlayView) (label : Label) → IsPlayedWeakly p → HasMadeLabel label p q → IsPlayedWeakly q
 played-made p q label played h = record {
   leads = leads;
   within =

@@ -8,11 +8,11 @@ use Rattle.ame_weak.specs.declared.tries.Try.{Try}
 use Rattle.ame_runner.specs.Labels.{label_location, behind_location, location_above}
 use Rattle.ame_runner.specs.Play.{PlayView, IsPlayedWeakly, begun_play}
 use Rattle.ame_runner.specs.Notes.{lets_try_again, IsAsideSince, AreKept}
-use Rattle.ame_runner.specs.Run.{RunView, turns_of_tries, IsOwn, AreSettled, AreFailedTries, CutAt, IsRunning, CanBeEnded, KeepsFrame, HasRun, RunsOrEnds}
+use Rattle.ame_runner.specs.Run.{CourseView, turns_of_tries, IsOwn, AreSettled, AreFailedTries, CutAt, IsRunning, CanBeEnded, KeepsFrame, HasRun, RunsOrEnds}
 use Rattle.ame_runner.proofs.NoteLemmas.{all-with, kept-label}
 
 -- the try that was cut off was made where nothing was active
-cut-settled : (r : RunView) → IsRunning r → CutAt (length r.play.labels) r.tries → CutAt r.play.settled r.tries
+cut-settled : (r : CourseView) → IsRunning r → CutAt (length r.play.labels) r.tries → CutAt r.play.settled r.tries
 cut-settled r x k = record {
   front = k.front;
   last = k.last;
@@ -29,8 +29,8 @@ cut-settled r x k = record {
     last-of P [] u all = all.0
     last-of P (t ∷ ts) u all = last-of P ts u all.1
 
--- whoever may go on may be ended
-pub running-ends : (r : RunView) → IsRunning r → CanBeEnded r
+-- a run that may go on may be ended
+pub running-ends : (r : CourseView) → IsRunning r → CanBeEnded r
 running-ends r x = record {
   played = x.played;
   kept = record {
@@ -45,7 +45,7 @@ running-ends r x = record {
 }
 
 -- one after the other
-pub frame-then : (r m q : RunView) → KeepsFrame r m → KeepsFrame m q → KeepsFrame r q
+pub frame-then : (r m q : CourseView) → KeepsFrame r m → KeepsFrame m q → KeepsFrame r q
 frame-then r m q first second = record { program = second.program ∙ first.program; limit = second.limit ∙ first.limit }
 
 -- Labels
@@ -64,7 +64,7 @@ all-to P Q f xs ps = all-with P P Q (λ x p q. f x p) xs ps ps
 not-none : (label : Label) (labels : List Label) → label ∷ labels ≡ [] → ⊥
 not-none label labels e = let clash : suc (length labels) ≡ 0 = ap length e in omega arith
 
-module _ (r q : RunView) (label : Label) (h : HasRun label r q) where
+module _ (r q : CourseView) (label : Label) (h : HasRun label r q) where
   more-settled : IsPlayedWeakly r.play → r.play.settled ≤ q.play.settled
   more-settled played = by (is_none q.play.weak.state.active) h.made.settled
     where
@@ -92,7 +92,7 @@ module _ (r q : RunView) (label : Label) (h : HasRun label r q) where
       (all-to (λ t. t.after ≤ r.play.settled) (λ t. t.after ≤ q.play.settled) (λ t few. omega (arith, few, more)) r.tries settled)
 
   -- the next label of the active fragment
-  pub runs-on : (s : RunView) → IsRunning s → s ≡ record r { left = label ∷ r.left } → IsRunning q
+  pub runs-on : (s : CourseView) → IsRunning s → s ≡ record r { left = label ∷ r.left } → IsRunning q
   runs-on s y is =
       let x : IsRunning (record r { left = label ∷ r.left }) = subst IsRunning is y in
       let long : length q.play.labels ≡ length r.play.labels + 1 = ap length h.made.labels ∙ length-append r.play.labels (label ∷ []) in
@@ -114,13 +114,13 @@ module _ (r q : RunView) (label : Label) (h : HasRun label r q) where
       }
 
 -- what is still to be made doesn't matter for an end
-pub ended-before : (s r : RunView) (ls : List Label) → IsRunning s → s ≡ record r { left = ls } → CanBeEnded r
+pub ended-before : (s r : CourseView) (ls : List Label) → IsRunning s → s ≡ record r { left = ls } → CanBeEnded r
 ended-before s r ls y is =
     let e : CanBeEnded (record r { left = ls }) = subst CanBeEnded is (running-ends s y) in
     record { played = e.played; kept = e.kept; settled = e.settled; few = e.few; cut = e.cut }
 
 -- before the first label
-pub running-begun : (r : RunView) (program : Tree) → IsPlayedWeakly r.play → r.play ≡ begun_play program → r.tries ≡ [] → r.left ≡ [] → r.above ≡ 0 → r.turns ≡ 0 → IsRunning r
+pub running-begun : (r : CourseView) (program : Tree) → IsPlayedWeakly r.play → r.play ≡ begun_play program → r.tries ≡ [] → r.left ≡ [] → r.above ≡ 0 → r.turns ≡ 0 → IsRunning r
 running-begun r program played begun tries left above turns = record {
   played = played;
   kept = subst (λ (ts : List Try). AreKept r.play.program r.play.labels r.aside ts) (sym tries) (record { order = tt; hold = tt; spaced = tt; put = tt });
@@ -136,7 +136,7 @@ running-begun r program played begun tries left above turns = record {
 }
 
 -- the answer of a label that isn't counted
-pub goes-on : {X E : Type 0} (s r q : RunView) (label : Label) (a : Result X E) → IsRunning s → s ≡ record r { left = label ∷ r.left } → OnOk a (HasRun label r q) → OnErr a (q ≡ r)
+pub goes-on : {X E : Type 0} (s r q : CourseView) (label : Label) (a : Result X E) → IsRunning s → s ≡ record r { left = label ∷ r.left } → OnOk a (HasRun label r q) → OnErr a (q ≡ r)
     → RunsOrEnds a q
 goes-on s r q label (Ok x) y is made err = runs-on r q label made s y is
 goes-on s r q label (Err e) y is made err = subst CanBeEnded (sym err) (ended-before s r (label ∷ r.left) y is)

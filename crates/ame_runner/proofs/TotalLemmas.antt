@@ -26,7 +26,7 @@ use Rattle.ame_weak.proofs.NoteLemmas.{notes-told, without-tries}
 use Rattle.ame_runner.specs.Run.{turns_of_tries}
 use Rattle.ame_runner.proofs.PlayLemmas.{none-where}
 
--- Who is active after a step
+-- The active member after a step
 
 plain-active : (kind : StepKind) (act : Act) (w : Weak) (made : Tree × Weak) → option_map (λ (m : Tree × State). (m.0, moved w m.1)) (performed kind act w.state) ≡ Some made
     → made.1.state.active ≡ w.state.active
@@ -66,7 +66,7 @@ close-stays i s t e =
     let m = map-gave (λ (v : Val). record s { members = change s.members i (fill term (Tree.Held v)) }) (closed_value (focus term)) t e1 in
     sym (ap (λ (z : State). z.active) m.2))
 
--- Turns that are still to be told by an entry: those of the active fragment
+-- Turns that are still to get an entry: those of the active fragment
 
 abbrev pending : Option ℕ → ℕ → ℕ
 pending None steps = 0
@@ -154,7 +154,7 @@ noted-steps (t ∷ ts) =
     let right = sum_by-cons (λ (u : Try). u.certificate.steps + 1) t ts in
     omega (arith, rest, left, right)
 
--- the journal of a run tells a third of its turns at least
+-- the journal of a run has a third of its turns at least
 pub turns-told : (program : Tree) (labels : List Label) (tries : List Try) (w : Weak) → weak_run (weak_start program) labels ≡ Some w → w.state.active ≡ None
     → AreTriesInOrder 0 (length labels) tries → length labels + turns_of_tries tries ≤ 3 * total_steps (straight_with 0 tries outset labels)
 turns-told program labels tries w leads idle order =

@@ -19,7 +19,7 @@ pub record HasNewsBetween (journal : List Entry) (first later : ℕ) : Type 0 wh
   pub there : slice_get journal place ≡ Some entry
   pub is : is_news entry.kind entry.fresh ≡ true
 
--- so it is between each two notes of one member, each of which tells that it came to a condition that is false
+-- so it is between any two notes of one member that say that it came to a condition that is false
 abbrev pub AreNotedApart : List Entry → Type 0
 AreNotedApart journal =
     (first later : ℕ) (note next : Entry) → first < later → HasEntryAt journal EntryKind.Stuck first note

@@ -1,4 +1,4 @@
--- Who may go on.
+-- The members that may go on.
 use Rattle.std.specs.Prelude.{ℕ, zero, suc, ◌==◌, Bool, true, false, not, ◌&&◌, ◌||◌, List, [], ◌∷◌, ◌++◌, Option, Some, None, is_some, is_none, if◌then◌else◌}
 use Rattle.ame_term.specs.Tree.{Tree}
 use Rattle.ame_term.specs.Context.{focus}
@@ -15,8 +15,8 @@ abbrev pub is_term_inside : Option Tree → Bool
 is_term_inside None = false
 is_term_inside (Some term) = stands_inside (focus term)
 
--- Whether a resting member makes what it does next now, without becoming active: it closes, or steps under
--- `unprotected`, where nobody peeks while a fragment is active.
+-- A resting member may make its next label without becoming active: it closes, or steps under `unprotected`. No member
+-- peeks there while a fragment is active.
 abbrev pub is_free_next : Option ℕ → Bool → Next → Bool
 is_free_next active inside next.Close = true
 is_free_next active inside next.Nothing = false
@@ -29,8 +29,8 @@ is_free_next active inside _ = inside
 abbrev pub goes_free : Weak → ℕ → Bool
 goes_free w i = is_free_next w.state.active (is_term_inside (at (pool w.state) i)) (next_of w.state (Some i))
 
--- While a member is active, it is a candidate; else each member of the pool that isn't put aside. And so is each
--- that goes on without becoming active.
+-- The active member is a candidate. If none is active, every member of the pool is one that isn't put aside. So is every
+-- member that goes on without becoming active.
 abbrev pub is_candidate_where : Option ℕ → Bool → Bool → Bool → ℕ → Bool
 is_candidate_where (Some j) there free aside i = j == i || free
 is_candidate_where None there free aside i = there && (free || not aside)

@@ -1,4 +1,4 @@
--- What is read off the labels of a run.
+-- The locations of the labels of a run.
 use Rattle.std.specs.Prelude.{ℕ, ◌+◌, max, List, [], ◌∷◌, Option, Some, None}
 use Rattle.ame_term.specs.Act.{fresh_location}
 use Rattle.ame_term.specs.declared.semantics.Label.{Label}
@@ -9,7 +9,7 @@ label_location (Label.Step kind) = fresh_location kind
 label_location (Label.Free i kind) = fresh_location kind
 label_location _ = None
 
--- the first location behind one, if there is one
+-- the first location after one, if there is one
 abbrev pub behind_location : Option ℕ → ℕ
 behind_location None = 0
 behind_location (Some l) = l + 1

@@ -4,9 +4,12 @@ pub mod View
 pub mod Choices
 pub mod Trial
 pub mod Tall
+pub mod Within
 pub mod Notes
 pub mod Run
 pub mod Freeing
 pub mod Stop
 pub mod Ended
+pub mod Drawn
+pub mod Drawing
 pub mod Apart

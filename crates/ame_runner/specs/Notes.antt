@@ -4,9 +4,10 @@ use Rattle.std.specs.List.{AllByRecursion, list_any}
 use Rattle.ame_term.specs.Tree.{Tree}
 use Rattle.ame_term.specs.declared.semantics.Label.{Label}
 use Rattle.ame_weak.specs.Weak.{Weak, IsWeakRun}
-use Rattle.ame_weak.specs.Tries.{HoldsIn, AreTriesInOrder}
+use Rattle.ame_weak.specs.Tries.{AreTriesInOrder}
 use Rattle.ame_weak.specs.declared.tries.Try.{Try}
 use Rattle.ame_runner.specs.Labels.{label_location}
+use Rattle.ame_runner.specs.Within.{HoldsWithin}
 
 -- whether those put aside may be tried again after a label: a fragment has left or ended, or a location is new
 abbrev pub lets_try_again : Label → Bool
@@ -34,15 +35,15 @@ without_cut [] = []
 without_cut (t ∷ []) = if t.failing then t ∷ [] else []
 without_cut (t ∷ u ∷ tries) = t ∷ without_cut (u ∷ tries)
 
--- a try holds where the labels before it lead
+-- a try holds in the state to which the labels before it lead, by steps within the bounds
 abbrev pub HoldsAfter : Tree → List Label → Try → Type 0
-HoldsAfter program labels t = (w : Weak) → IsWeakRun program (take t.after labels) w → HoldsIn w t
+HoldsAfter program labels t = (w : Weak) → IsWeakRun program (take t.after labels) w → HoldsWithin w t
 
 -- a failing try's member is put aside, or there was such a label since
 abbrev pub IsAsideSince : List Label → (ℕ → Bool) → Try → Type 0
 IsAsideSince labels aside t = t.failing ≡ true → (aside t.certificate.number ≡ true) ⊎ HasChange (drop t.after labels)
 
--- the tries of the labels so far, where these are put aside
+-- the tries of the labels so far, with the members that are put aside
 pub record AreKept (program : Tree) (labels : List Label) (aside : ℕ → Bool) (tries : List Try) : Type 0 where
   pub order : AreTriesInOrder 0 (length labels) tries
   pub hold : AllByRecursion (HoldsAfter program labels) tries

@@ -35,7 +35,7 @@ abbrev pub begun_play : Tree → PlayView
 begun_play program = record { program = program; labels = []; weak = weak_start program; above = 0; settled = 0 }
 
 -- one more label was made
-pub record HasMade (label : Label) (old new : PlayView) : Type 0 where
+pub record HasMadeLabel (label : Label) (old new : PlayView) : Type 0 where
   pub program : new.program ≡ old.program
   pub labels : new.labels ≡ old.labels ++ label ∷ []
   pub legal : weak_after old.weak label ≡ Some new.weak

@@ -15,7 +15,8 @@ use Rattle.ame_weak.specs.Straight.{straight}
 use Rattle.ame_journal.specs.declared.certificate.Certificate.{Certificate}
 use Rattle.ame_runner.specs.Choices.{candidates}
 use Rattle.ame_runner.specs.Tall.{IsTallIn}
-use Rattle.ame_runner.specs.Run.{RunView, IsRunning, CanBeEnded}
+use Rattle.ame_runner.specs.Within.{IsReachedWithin}
+use Rattle.ame_runner.specs.Run.{CourseView, IsRunning, CanBeEnded}
 use Rattle.ame_runner.specs.declared.stop.WeakStop.{WeakStop}
 
 -- Devices
@@ -26,11 +27,11 @@ FailsBy (Some (WeakStop.DeviceFault device)) before after = OneFailed device bef
 FailsBy _ before after = NoneFailed before after
 
 -- devices have heard the calls of the journal of the labels so far
-abbrev pub HeardSoFar : RunView → List Told → List Told → Type 0
+abbrev pub HeardSoFar : CourseView → List Told → List Told → Type 0
 HeardSoFar r opened now = HaveHeard r.play.program (straight r.play.labels) opened now
 
--- so it is still, and a device failed only where the run stops by that
-abbrev pub HearsOn : Option WeakStop → RunView → RunView → List Told → List Told → Type 0
+-- so it still is, and a device failed only if that stops the run
+abbrev pub HearsOn : Option WeakStop → CourseView → CourseView → List Told → List Told → Type 0
 HearsOn stop old new before after =
     (opened : List Told) → IsRunning old → HeardSoFar old opened before → HeardSoFar new opened after × FailsBy stop before after
 
@@ -58,25 +59,25 @@ HasWeakCause WeakStop.Finished w turns limit = pool w.state ≡ []
 HasWeakCause (WeakStop.Blocked certificates) w turns limit = IsBlockedBy w certificates.items
 HasWeakCause WeakStop.Spent w turns limit = (turns ≡ limit) × (pool w.state ≢ [])
 HasWeakCause (WeakStop.DeviceFault device) w turns limit = StandsAtCall w device
-HasWeakCause (WeakStop.Tall entry) w turns limit = IsTallIn w.state entry
+HasWeakCause (WeakStop.Tall entry) w turns limit = IsTallIn w.state entry × IsReachedWithin w entry
 HasWeakCause WeakStop.NoMemory w turns limit = ⊤
 
 -- the run has stopped: nothing is active, no label is left to be made, and the stop has its cause
-pub record HasStoppedWeakly (stop : WeakStop) (r : RunView) : Type 0 where
+pub record HasStoppedWeakly (stop : WeakStop) (r : CourseView) : Type 0 where
   pub none : r.left ≡ []
   pub idle : r.play.weak.state.active ≡ None
   pub cause : HasWeakCause stop r.play.weak r.turns r.limit
 
-abbrev pub StopsIfTold : Option WeakStop → RunView → Type 0
+abbrev pub StopsIfTold : Option WeakStop → CourseView → Type 0
 StopsIfTold None r = ⊤
 StopsIfTold (Some stop) r = HasStoppedWeakly stop r
 
--- somebody may go on
-abbrev pub MayGoOn : RunView → Type 0
+-- a member may go on
+abbrev pub MayGoOn : CourseView → Type 0
 MayGoOn r = candidates r.play.weak r.aside ≢ []
 
--- In which order stops are found: the run is blocked only where nobody may go on, and the turns are used up only where somebody may.
-abbrev pub IsFoundInOrder : WeakStop → RunView → Type 0
+-- Stops are found in order: the run is blocked only if no member may go on, and the turns are used up only if one may.
+abbrev pub IsFoundInOrder : WeakStop → CourseView → Type 0
 IsFoundInOrder WeakStop.Finished r = ⊤
 IsFoundInOrder (WeakStop.Blocked certificates) r = candidates r.play.weak r.aside ≡ []
 IsFoundInOrder WeakStop.Spent r = MayGoOn r
@@ -84,13 +85,13 @@ IsFoundInOrder (WeakStop.DeviceFault device) r = ⊥
 IsFoundInOrder (WeakStop.Tall entry) r = ⊥
 IsFoundInOrder WeakStop.NoMemory r = ⊥
 
--- what is found while nothing is active: a stop with its cause, or that somebody may go on and turns are left
-abbrev pub FoundAtRest : RunView → Option WeakStop → Type 0
+-- while nothing is active the run finds a stop with its cause, or a member may go on and turns are left
+abbrev pub FoundAtRest : CourseView → Option WeakStop → Type 0
 FoundAtRest r None = (r.play.weak.state.active ≡ None) × MayGoOn r × (r.turns < r.limit)
 FoundAtRest r (Some stop) = IsRunning r → HasStoppedWeakly stop r × IsFoundInOrder stop r
 
 -- a certificate was added, if the member is there
-pub record HasCertified (r : RunView) (number : ℕ) (old new : List Certificate) : Type 0 where
+pub record HasCertified (r : CourseView) (number : ℕ) (old new : List Certificate) : Type 0 where
   pub fail :
       IsRunning r → AllByRecursion (λ c. fails_after r.play.weak.state c.number c.steps c.fresh ≡ true) old
       → AllByRecursion (λ c. fails_after r.play.weak.state c.number c.steps c.fresh ≡ true) new
@@ -98,34 +99,34 @@ pub record HasCertified (r : RunView) (number : ℕ) (old new : List Certificate
   pub others : (i : ℕ) → list_any (λ c. c.number == i) old ≡ true → list_any (λ c. c.number == i) new ≡ true
   pub numbers : (certified_numbers new ≡ certified_numbers old) ⊎ (certified_numbers new ≡ certified_numbers old ++ number ∷ [])
 
--- A member grew too tall: but for the turns of the try that came to that, if it was in one, the run is under way.
-pub record HasGrown (entry : Entry) (r : RunView) : Type 0 where
+-- A member came to a value that is too high. The run is under way but for the turns of the attempt in which that happened, if there was one.
+pub record HasGrown (entry : Entry) (r : CourseView) : Type 0 where
   pub turns : ℕ
   pub before : IsRunning (record r { turns = turns })
-  pub more : r.turns ≤ turns + (entry.steps + 1)
+  pub more : (r.turns ≡ turns) ⊎ (r.turns ≡ turns + (entry.steps + 1))
   pub within : r.turns ≤ r.limit
 
--- what is so of the turns where a run stops, or goes on
-abbrev pub RunsUntil : Option WeakStop → RunView → Type 0
+-- the turns of a run that stops or goes on
+abbrev pub RunsUntil : Option WeakStop → CourseView → Type 0
 RunsUntil (Some (WeakStop.Tall entry)) r = HasGrown entry r
 RunsUntil _ r = IsRunning r
 
--- a member grew too tall, by which the run stops, or memory was wanted
-abbrev pub GrowsOrEnds : {E : Type 0} → Result Entry E → RunView → Type 0
+-- a member came to a value that is too high, which stops the run, or the run is out of memory
+abbrev pub GrowsOrEnds : {E : Type 0} → Result Entry E → CourseView → Type 0
 GrowsOrEnds (Ok entry) r = HasGrown entry r × HasStoppedWeakly (WeakStop.Tall entry) r
 GrowsOrEnds (Err e) r = CanBeEnded r
 
--- so it did, if that is told; else the run goes on
-abbrev pub HasAttempted : Option Entry → RunView → Type 0
+-- so it did, if there is a note; otherwise the run goes on
+abbrev pub HasAttempted : Option Entry → CourseView → Type 0
 HasAttempted (Some entry) r = HasGrown entry r × HasStoppedWeakly (WeakStop.Tall entry) r
 HasAttempted None r = IsRunning r
 
 -- a choice, or a stop in its place; memory may be wanted
-abbrev pub GoesOrStops : {E : Type 0} → RunView → RunView → List Told → List Told → Result (Option WeakStop) E → Type 0
+abbrev pub GoesOrStops : {E : Type 0} → CourseView → CourseView → List Told → List Told → Result (Option WeakStop) E → Type 0
 GoesOrStops old new before after (Ok stop) = IsRunning old → RunsUntil stop new × HearsOn stop old new before after × StopsIfTold stop new
 GoesOrStops old new before after (Err e) = IsRunning old → CanBeEnded new
 
 -- choices until a stop
-abbrev pub PlaysOn : {E : Type 0} → RunView → RunView → List Told → List Told → Result WeakStop E → Type 0
+abbrev pub PlaysOn : {E : Type 0} → CourseView → CourseView → List Told → List Told → Result WeakStop E → Type 0
 PlaysOn old new before after (Ok stop) = IsRunning old → RunsUntil (Some stop) new × HearsOn (Some stop) old new before after × HasStoppedWeakly stop new
 PlaysOn old new before after (Err e) = IsRunning old → CanBeEnded new

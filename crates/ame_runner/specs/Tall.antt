@@ -8,11 +8,11 @@ use Rattle.ame_journal.specs.Replay.{attempt}
 use Rattle.ame_journal.specs.Replayed.{has_such, side_at, is_tall}
 use Rattle.ame_runner.specs.declared.trial.TriedOut.{TriedOut}
 
--- the note of it: so many steps of the member lead there, which make these locations, in order
+-- the note of it: this number of steps of the member lead there, which make these locations, in order
 abbrev pub tall_note : ℕ → ℕ → List ℕ → Entry
 tall_note i n fresh = record { kind = EntryKind.Tall; seat = 0; number = i; steps = n; fresh = fresh; answer = None }
 
--- What such a note tells of a state: the fragment of the member, or where it stands under `unprotected` these steps, come to a form that would
+-- Such a note holds in a state: the fragment of the member, or its steps under `unprotected`, come to a form that would
 -- become a value too high by one.
 pub record IsTallIn (s : State) (entry : Entry) : Type 0 where
   pub note : entry ≡ tall_note entry.number entry.steps entry.fresh

@@ -1,5 +1,5 @@
 -- Members that are tried on a copy.
-use Rattle.std.specs.Prelude.{◌≡◌, ℕ, ◌+◌, ◌≤◌, Bool, true, false, List, [], ◌∷◌, ◌++◌, length, Some, None, is_some, ⊤}
+use Rattle.std.specs.Prelude.{◌≡◌, ◌≢◌, ℕ, ◌+◌, ◌≤◌, Bool, true, false, List, [], ◌∷◌, ◌++◌, length, Some, None, is_some, ⊤}
 use Rattle.ame_term.specs.Act.{fresh_location}
 use Rattle.ame_term.specs.State.{after}
 use Rattle.ame_term.specs.declared.semantics.StepKind.{StepKind}
@@ -37,13 +37,17 @@ pub record HasTriedOn (v : Weak) (kinds : List StepKind) (above : ℕ) (later : 
   pub added : more ≡ kinds ++ kind ∷ []
   pub made : AreNext above (fresh_of kind) next_above
 
--- what stands at the end of a fragment that was tried
+-- neither is the next condition false, nor would the next value be too high
+abbrev pub MayStep : Weak → Type 0
+MayStep v = (next_of v.state None ≢ next.Stuck) × (is_growing_tall v None ≡ false)
+
+-- the end of a fragment that was tried
 abbrev pub StandsAs : Outcome → Weak → Type 0
 StandsAs Outcome.Leaves v = is_some (after v.state Label.Leave) ≡ true
 StandsAs Outcome.Ends v = is_some (after v.state Label.End) ≡ true
 StandsAs Outcome.Fails v = next_of v.state None ≡ next.Stuck
 StandsAs Outcome.Tall v = is_growing_tall v None ≡ true
-StandsAs Outcome.Cut v = ⊤
+StandsAs Outcome.Cut v = MayStep v
 
 -- the fragment has come to its end, or can't go on
 abbrev pub IsDecided : Outcome → Type 0
@@ -58,8 +62,8 @@ last_turn Outcome.Fails = 0
 last_turn Outcome.Tall = 0
 last_turn Outcome.Cut = 0
 
--- Member i was tried from w, with new locations from the first on and so many turns left. Its activation, its steps and
--- its last label took one each. It is cut off only where it has used them up.
+-- Member i was tried from w, with new locations from the first on and with the turns that were left. Its activation, its
+-- steps and its last label took one each. It is cut off only if it has used them up.
 pub record IsTriedOut (w : Weak) (i first turns : ℕ) (a : TriedOut) : Type 0 where
   pub behind : Weak
   pub is : IsTrial w i first behind a.kinds.items a.above
@@ -68,7 +72,7 @@ pub record IsTriedOut (w : Weak) (i first turns : ℕ) (a : TriedOut) : Type 0 w
   pub within : a.turns ≤ turns
   pub used : a.outcome ≡ Outcome.Cut → a.turns ≡ turns
 
--- what is told of a fragment once the turns are used up
+-- an attempt when the turns are used up
 pub record IsEndedAtLast (v : Weak) (kinds : List StepKind) (above turns : ℕ) (a : TriedOut) : Type 0 where
   pub made : a.kinds.items ≡ kinds
   pub up : a.above ≡ above
@@ -82,7 +86,7 @@ abbrev pub is_failure : Outcome → Bool
 is_failure Outcome.Fails = true
 is_failure _ = false
 
--- the try that tells of a fragment of member i that was tried out
+-- the try of an attempt of member i
 pub record IsTryOf (i : ℕ) (a : TriedOut) (t : Try) : Type 0 where
   pub number : t.certificate.number ≡ i
   pub steps : t.certificate.steps ≡ length a.kinds.items

@@ -1,11 +1,11 @@
--- What contracts see of a `Play`, of `Notes` and of a `Run`.
+-- The views of a `Play`, of `Notes` and of a `Run` in contracts.
 use Rattle.std.specs.Prelude.{ℕ, Bool, List}
 use Rattle.std.specs.BTreeSet.{contains}
 use Rattle.std.specs.Ordering.{nat_cmp}
 use Rattle.ame_term.specs.View.{tree_of}
 use Rattle.ame_weak.specs.View.{weak_of}
 use Rattle.ame_runner.specs.Play.{PlayView}
-use Rattle.ame_runner.specs.Run.{RunView}
+use Rattle.ame_runner.specs.Run.{CourseView}
 use Rattle.ame_weak.specs.declared.tries.Try.{Try}
 use Rattle.ame_runner.specs.declared.play.Play.{Play}
 use Rattle.ame_runner.specs.declared.notes.Notes.{Notes}
@@ -28,7 +28,7 @@ tries_made n = n.tries.items
 abbrev pub aside_of : Notes → ℕ → Bool
 aside_of n = contains nat_cmp n.aside
 
-abbrev pub run_of : Run → RunView
+abbrev pub run_of : Run → CourseView
 run_of r = record {
   play = play_of r.play;
   tries = tries_made r.notes;

@@ -1,4 +1,4 @@
-//! Who may go on, and who is drawn.
+//! The members that may go on, and the one that a number draws.
 
 ghost use Rattle.std.specs.Prelude.{◌≡◌, ◌<◌, ◌%◌, length, Some, option_map, slice_index_or, Contains, IfOk};
 ghost use Rattle.std.specs.BTreeSet.{contains};
@@ -15,8 +15,8 @@ use ame_weak::WeakState;
 use std::alloc::Global;
 use std::collections::BTreeSet;
 
-/// The members that may go on, by rising number, where these are put aside. Costs what it costs to tell of each
-/// member what it does next.
+/// Returns the members that may go on, in order of their numbers, if the given members are put aside. Costs a look at
+/// the next step of every member.
 #[tactic(auto, using(crate::proofs::ChoiceLemmas::one_number))]
 pub fn candidates(
     alloc: Global,
@@ -34,7 +34,7 @@ pub fn candidates(
     Ok(numbers)
 }
 
-/// One of these, by the next number of the stream, which counts along them, round and round.
+/// Draws the next number of the stream and returns one of the candidates: the number counts along them, round and round.
 pub fn drawn(numbers: &mut Numbers, candidates: &[u64]) -> u64
     requires { 0 < length candidates.now }
     ensures one { Contains candidates.now result }
@@ -45,7 +45,7 @@ pub fn drawn(numbers: &mut Numbers, candidates: &[u64]) -> u64
     candidates[place]
 }
 
-/// Whether a member may go on.
+/// Returns whether a member may go on.
 fn is_candidate(state: &WeakState, aside: &BTreeSet<u64>, number: u64) -> bool
     ensures { result ≡ is_candidate (weak_of state.now) (contains nat_cmp aside.now) number }
 {
@@ -57,7 +57,7 @@ fn is_candidate(state: &WeakState, aside: &BTreeSet<u64>, number: u64) -> bool
     }
 }
 
-/// Whether a member of the pool goes on without becoming active.
+/// Returns whether a member of the pool goes on without becoming active.
 pub(crate) fn goes_free(state: &WeakState, number: u64) -> bool
     ensures { result ≡ goes_free (weak_of state.now) number }
 {
@@ -70,7 +70,7 @@ pub(crate) fn goes_free(state: &WeakState, number: u64) -> bool
     }
 }
 
-/// Whether a term stands under `unprotected`.
+/// Returns whether a term stands under `unprotected`.
 fn is_term_inside(term: Option<&Term>) -> bool
     ensures { result ≡ is_term_inside (option_map (λ t. tree_of t.now) term.entry) }
 {
@@ -80,7 +80,7 @@ fn is_term_inside(term: Option<&Term>) -> bool
     }
 }
 
-/// The same of a term that is there.
+/// Returns whether the next step of a term is under `unprotected`.
 fn is_inside(term: &Term) -> bool
     ensures { result ≡ is_term_inside (Some (tree_of term.now)) }
 {

@@ -1,6 +1,6 @@
 //! Choices, until a run stops.
 
-ghost use Rattle.std.specs.Prelude.{◌≡◌, ◌<◌, ◌%◌, [], true, length, List, None, Some, slice_index_or, IfOk, OnOk};
+ghost use Rattle.std.specs.Prelude.{◌≡◌, ◌<◌, [], true, length, List, None, Some, IfOk, OnOk};
 ghost use Rattle.ame_gen.specs.Stream.{next};
 ghost use Rattle.ame_device.specs.Calls.{all_told};
 ghost use Rattle.ame_device.specs.declared.told.Told.{Told};
@@ -19,12 +19,15 @@ use ame_term::{Loc, NoMemory};
 use std::alloc::Global;
 
 impl<'a> Run<'a> {
-    ghost use Rattle.ame_runner.specs.Choices.{candidates};
     ghost use Rattle.ame_runner.specs.Run.{IsRunning, RunsOrEnds, KeepsFrame};
     ghost use Rattle.ame_runner.specs.Stop.{HearsOn, StandsAtCall, HasStoppedWeakly, GrowsOrEnds, GoesOrStops, PlaysOn};
+    ghost use Rattle.ame_runner.specs.Stop.{MayGoOn};
+    ghost use Rattle.ame_runner.specs.Tall.{tall_note};
+    ghost use Rattle.ame_runner.specs.Drawn.{drawn_by};
+    ghost use Rattle.ame_runner.specs.Drawing.{HasActivated, HasRunOut, TakesOrStops, DrawsOrEnds, DrawsAll};
     ghost use Rattle.ame_runner.specs.View.{run_of};
 
-    /// Makes choices until the run stops. Who is chosen is read off these numbers.
+    /// Makes choices until the run stops. Every choice takes the next number of the stream.
     pub(crate) fn play_on<D: Device>(
         &mut self,
         alloc: Global,
@@ -35,6 +38,7 @@ impl<'a> Run<'a> {
         ensures count { length devices.new.items ≡ length devices.old.items }
         ensures plays { PlaysOn (run_of self.old) (run_of self.new) (all_told D.device_heard D.device_faults devices.old.items)
             (all_told D.device_heard D.device_faults devices.new.items) result }
+        ensures drawn { IfOk result (DrawsAll numbers.old (run_of self.old) (run_of self.new)) }
     {
         for _ in 0..u64::MAX {
             if let Some(stop) = self.choose(alloc, numbers, devices)? {
@@ -55,6 +59,7 @@ impl<'a> Run<'a> {
         ensures count { length devices.new.items ≡ length devices.old.items }
         ensures goes { GoesOrStops (run_of self.old) (run_of self.new) (all_told D.device_heard D.device_faults devices.old.items)
             (all_told D.device_heard D.device_faults devices.new.items) result }
+        ensures drawn { IfOk result (DrawsOrEnds numbers.old numbers.new (run_of self.old) (run_of self.new)) }
     {
         if self.left.is_empty() {
             self.choose_at_rest(alloc, numbers, devices)
@@ -63,7 +68,7 @@ impl<'a> Run<'a> {
         }
     }
 
-    /// The same while nothing is active.
+    /// Makes a choice while nothing is active, or finds the stop in its place.
     fn choose_at_rest<D: Device>(
         &mut self,
         alloc: Global,
@@ -75,6 +80,7 @@ impl<'a> Run<'a> {
         ensures count { length devices.new.items ≡ length devices.old.items }
         ensures goes { GoesOrStops (run_of self.old) (run_of self.new) (all_told D.device_heard D.device_faults devices.old.items)
             (all_told D.device_heard D.device_faults devices.new.items) result }
+        ensures drawn { IfOk result (DrawsOrEnds numbers.old numbers.new (run_of self.old) (run_of self.new)) }
     {
         if let Some(stop) = self.stop_at_rest(alloc)? {
             return Ok(Some(stop));
@@ -83,7 +89,7 @@ impl<'a> Run<'a> {
         self.choose_resting(alloc, number, devices)
     }
 
-    /// The same while a fragment is active. Where no turns are left, that fragment runs to its end.
+    /// Makes a choice while a fragment is active. With no turns left, it runs that fragment to its end instead, and draws no number.
     fn choose_within<D: Device>(
         &mut self,
         alloc: Global,
@@ -94,6 +100,7 @@ impl<'a> Run<'a> {
         ensures count { length devices.new.items ≡ length devices.old.items }
         ensures goes { GoesOrStops (run_of self.old) (run_of self.new) (all_told D.device_heard D.device_faults devices.old.items)
             (all_told D.device_heard D.device_faults devices.new.items) result }
+        ensures drawn { IfOk result (DrawsOrEnds numbers.old numbers.new (run_of self.old) (run_of self.new)) }
     {
         if self.is_spent() {
             self.run_out(alloc)?;
@@ -107,7 +114,7 @@ impl<'a> Run<'a> {
         self.go_free(alloc, number, devices)
     }
 
-    /// A member is chosen while nothing is active.
+    /// Runs the drawn member while nothing is active: a step under `unprotected`, or an attempt.
     fn choose_resting<D: Device>(
         &mut self,
         alloc: Global,
@@ -121,6 +128,7 @@ impl<'a> Run<'a> {
         ensures count { length devices.new.items ≡ length devices.old.items }
         ensures goes { GoesOrStops (run_of self.old) (run_of self.new) (all_told D.device_heard D.device_faults devices.old.items)
             (all_told D.device_heard D.device_faults devices.new.items) result }
+        ensures taken { IfOk result (TakesOrStops number (run_of self.old) (run_of self.new)) }
     {
         if goes_free(self.play.state(), number) {
             return self.go_free(alloc, number, devices);
@@ -136,11 +144,12 @@ impl<'a> Run<'a> {
         Ok(None)
     }
 
-    /// The fragment that is to be made, if there is one, begins.
+    /// Makes the first label of the planned fragment, if there is one.
     fn activate(&mut self, alloc: Global) -> Result<(), NoMemory>
         ensures frame { KeepsFrame (run_of self.old) (run_of self.new) }
         ensures runs { IsRunning (run_of self.old) → RunsOrEnds result (run_of self.new) }
         ensures hears { OnOk result ((told : List Told) → HearsOn None (run_of self.old) (run_of self.new) told told) }
+        ensures begun { OnOk result (HasActivated (run_of self.old) (run_of self.new)) }
     {
         if self.left.is_empty() {
             return Ok(());
@@ -148,7 +157,7 @@ impl<'a> Run<'a> {
         self.go_on(alloc)
     }
 
-    /// A member goes on under `unprotected`, unless it is about to become a value that is too high.
+    /// Makes a step of a member under `unprotected`, or stops the run if the step would make a value that is too high.
     fn go_free<D: Device>(
         &mut self,
         alloc: Global,
@@ -160,6 +169,7 @@ impl<'a> Run<'a> {
         ensures count { length devices.new.items ≡ length devices.old.items }
         ensures goes { GoesOrStops (run_of self.old) (run_of self.new) (all_told D.device_heard D.device_faults devices.old.items)
             (all_told D.device_heard D.device_faults devices.new.items) result }
+        ensures taken { IfOk result (TakesOrStops number (run_of self.old) (run_of self.new)) }
     {
         let grows = self.is_growing(alloc, number)?;
         if grows {
@@ -169,11 +179,13 @@ impl<'a> Run<'a> {
         self.free_or_fault(alloc, number, devices)
     }
 
-    /// A member is about to become a value that is too high, so that the run stops once the active fragment has run to its end.
+    /// Runs the active fragment to its end, and returns the note of a member that is about to become a value that is too high.
     fn end_tall(&mut self, alloc: Global, number: u64) -> Result<Entry, NoMemory>
         ensures frame { KeepsFrame (run_of self.old) (run_of self.new) }
         ensures runs { IsRunning (run_of self.old) → GrowsOrEnds result (run_of self.new) }
         ensures hears { OnOk result ((told : List Told) → HearsOn None (run_of self.old) (run_of self.new) told told) }
+        ensures out { OnOk result (HasRunOut (run_of self.old) (run_of self.new)) }
+        ensures note { IfOk result (λ entry. entry ≡ tall_note number 0 []) }
     {
         self.run_out(alloc)?;
         if self.is_busy() {
@@ -186,14 +198,14 @@ impl<'a> Run<'a> {
         Err(NoMemory)
     }
 
-    /// Whether a member of the pool is about to become a value that is too high, under `unprotected`.
+    /// Returns whether a member of the pool is about to become a value that is too high, under `unprotected`.
     fn is_growing(&self, alloc: Global, number: u64) -> Result<bool, NoMemory>
         ensures { IfOk result (λ grows. grows ≡ is_growing_tall (run_of self.now).play.weak (Some number)) }
     {
         self.play.state().is_growing_tall(alloc, Some(number))
     }
 
-    /// A member goes on under `unprotected`, or the device that it calls fails.
+    /// Makes a step of a member under `unprotected`, or stops the run if the device that it calls fails.
     fn free_or_fault<D: Device>(
         &mut self,
         alloc: Global,
@@ -205,6 +217,7 @@ impl<'a> Run<'a> {
         ensures count { length devices.new.items ≡ length devices.old.items }
         ensures goes { GoesOrStops (run_of self.old) (run_of self.new) (all_told D.device_heard D.device_faults devices.old.items)
             (all_told D.device_heard D.device_faults devices.new.items) result }
+        ensures taken { IfOk result (TakesOrStops number (run_of self.old) (run_of self.new)) }
     {
         match next_free(self.play.state(), Loc(self.above), number, devices)? {
             Freed::Label(label) => {
@@ -218,12 +231,13 @@ impl<'a> Run<'a> {
         }
     }
 
-    /// A device has failed for a member, so that the run stops once the active fragment has run to its end.
+    /// Runs the active fragment to its end, after a device has failed for a member.
     fn end_by(&mut self, alloc: Global, number: u64, device: u8) -> Result<(), NoMemory>
         ensures frame { KeepsFrame (run_of self.old) (run_of self.new) }
         ensures runs { IsRunning (run_of self.old) → RunsOrEnds result (run_of self.new) }
         ensures hears { OnOk result ((told : List Told) → HearsOn None (run_of self.old) (run_of self.new) told told) }
         ensures stopped { OnOk result (HasStoppedWeakly (WeakStop.DeviceFault device) (run_of self.new)) }
+        ensures out { OnOk result (HasRunOut (run_of self.old) (run_of self.new)) }
     {
         self.run_out(alloc)?;
         if self.is_busy() {
@@ -235,10 +249,10 @@ impl<'a> Run<'a> {
         Err(NoMemory)
     }
 
-    /// One of those who may go on, by the next number.
+    /// Draws the next number and returns the candidate that it chooses.
     fn one_of(&self, alloc: Global, numbers: &mut Numbers) -> Result<u64, NoMemory>
-        ensures place { IfOk result (λ number. let may = candidates (run_of self.now).play.weak (run_of self.now).aside in
-            number ≡ slice_index_or may (next numbers.old % length may) 0) }
+        ensures place { IfOk result (λ number. number ≡ drawn_by (next numbers.old) (run_of self.now)) }
+        ensures some { OnOk result (MayGoOn (run_of self.now)) }
         ensures stream { OnOk result (numbers.new ≡ next numbers.old) }
     {
         let may = self.who_may(alloc)?;
@@ -248,7 +262,7 @@ impl<'a> Run<'a> {
         Ok(drawn(numbers, &may))
     }
 
-    /// Whether this member is active.
+    /// Returns whether this member is active.
     fn is_active(&self, number: u64) -> bool
         ensures { result ≡ true → (run_of self.now).play.weak.state.active ≡ Some number }
     {
@@ -258,14 +272,14 @@ impl<'a> Run<'a> {
         }
     }
 
-    /// Whether this member is put aside.
+    /// Returns whether this member is put aside.
     fn is_aside(&self, number: u64) -> bool
         ensures { result ≡ (run_of self.now).aside number }
     {
         self.notes.aside().contains(&number)
     }
 
-    /// Whether a member stands at a call of this device.
+    /// Returns whether a member stands at a call of this device.
     fn stands_at(&self, number: u64, device: u8) -> bool
         ensures { result ≡ true → StandsAtCall (run_of self.now).play.weak device }
     {

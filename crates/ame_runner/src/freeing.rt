@@ -13,7 +13,7 @@ use ame_strong::Next;
 use ame_term::{Label, Loc, NoMemory, StepKind};
 use ame_weak::WeakState;
 
-/// What comes of a member that goes on under `unprotected`.
+/// The outcome of a step under `unprotected`.
 #[derive(Clone, Copy, PartialEq, Eq, Debug)]
 pub enum Freed {
     /// It makes this label.
@@ -22,8 +22,8 @@ pub enum Freed {
     Fault(u8),
 }
 
-/// The label that a member makes next under `unprotected`, where a new location is this one; if it calls a device, the
-/// device is called. One that makes none, or calls a device that isn't there, is answered as want of memory.
+/// Returns the label that a member makes next under `unprotected`, with `above` as a new location. If the member calls a
+/// device, this calls the device. Returns out of memory if the member has no such label or the device doesn't exist.
 pub fn next_free<D: Device>(
     state: &WeakState,
     above: Loc,
@@ -45,7 +45,7 @@ pub fn next_free<D: Device>(
     }
 }
 
-/// A member calls a device.
+/// Calls a device for a member.
 fn call_for<D: Device>(
     devices: &mut Vec<D>,
     number: u64,

@@ -21,7 +21,7 @@ pub struct Notes {
 impl Notes {
     ghost use Rattle.ame_runner.specs.View.{tries_made, aside_of};
 
-    /// No tries yet, and nobody put aside.
+    /// Returns notes with no tries and no member put aside.
     pub fn new(alloc: Global) -> Notes
         ensures tries { tries_made result ≡ [] }
         ensures aside { (i : ℕ) → aside_of result i ≡ false }
@@ -32,14 +32,14 @@ impl Notes {
         }
     }
 
-    /// The members that are put aside.
+    /// Returns the members that are put aside.
     pub fn aside(&self) -> &BTreeSet<u64>
         ensures { contains nat_cmp result.now ≡ aside_of self.now }
     {
         &self.aside
     }
 
-    /// The tries in order, over their memory.
+    /// Returns the tries in order, in the memory that they have.
     pub fn into_tries(self) -> Vec<Try>
         ensures { result.items ≡ tries_made self }
     {
@@ -47,7 +47,7 @@ impl Notes {
         tries
     }
 
-    /// Lets the last try go, if it was cut off, and tells whether it was.
+    /// Removes the last try if it was cut off, and returns whether it was.
     pub fn let_cut_go(&mut self) -> bool
         ensures tries { tries_made self.new ≡ without_cut (tries_made self.old) }
         ensures none { result ≡ false → tries_made self.new ≡ tries_made self.old }
@@ -59,7 +59,7 @@ impl Notes {
         cut
     }
 
-    /// Whether the last try was cut off.
+    /// Returns whether the last try was cut off.
     fn ends_cut(&self) -> bool
         ensures yes { result ≡ true → take (length (tries_made self.now) - 1) (tries_made self.now) ≡ without_cut (tries_made self.now) }
         ensures no { result ≡ false → tries_made self.now ≡ without_cut (tries_made self.now) }
@@ -70,7 +70,7 @@ impl Notes {
         }
     }
 
-    /// A label was made. Where a fragment has left or ended or a location is new, nobody is put aside any more.
+    /// Passes a label that was made. If a fragment has left or ended or a location is new, no member stays put aside.
     pub fn pass(&mut self, label: Label)
         ensures tries { tries_made self.new ≡ tries_made self.old }
         ensures aside { (i : ℕ) → aside_of self.new i ≡ (if lets_try_again label then false else aside_of self.old i) }
@@ -80,7 +80,7 @@ impl Notes {
         }
     }
 
-    /// A fragment was tried. Where it failed, its member is put aside.
+    /// Adds a try. If it failed, its member is put aside.
     pub fn add(&mut self, t: Try) -> Result<(), NoMemory>
         ensures tries { OnOk result (tries_made self.new ≡ tries_made self.old ++ t ∷ []) }
         ensures aside { OnOk result ((i : ℕ) → aside_of self.new i ≡ (t.failing && (t.certificate.number == i) || aside_of self.old i)) }
@@ -106,7 +106,7 @@ impl Notes {
         }
     }
 
-    /// A member is put aside.
+    /// Puts a member aside.
     fn put_aside(&mut self, number: u64) -> Result<(), NoMemory>
         ensures tries { self.new.tries ≡ self.old.tries }
         ensures aside { OnOk result ((i : ℕ) → aside_of self.new i ≡ ((number == i) || aside_of self.old i)) }
@@ -116,7 +116,7 @@ impl Notes {
     }
 }
 
-/// Whether those put aside may be tried again after a label.
+/// Returns whether the members put aside may be tried again after a label.
 fn lets_try_again(label: Label) -> bool
     ensures { result ≡ lets_try_again label }
 {

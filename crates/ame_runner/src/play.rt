@@ -19,16 +19,16 @@ pub struct Play<'a> {
     labels: Vec<Label>,
     /// The least location above all that the labels made.
     above: u32,
-    /// How many labels there were when nothing was active last.
+    /// The number of labels when nothing was active last.
     settled: usize,
 }
 
 impl<'a> Play<'a> {
     ghost use Rattle.ame_weak.specs.Weak.{weak_after};
-    ghost use Rattle.ame_runner.specs.Play.{begun_play, HasMade, IsPlayedWeakly};
+    ghost use Rattle.ame_runner.specs.Play.{begun_play, HasMadeLabel, IsPlayedWeakly};
     ghost use Rattle.ame_runner.specs.View.{play_of};
 
-    /// Before the first label.
+    /// Returns a run before its first label.
     pub fn start(alloc: Global, accepted: &'a Accepted) -> Result<Play<'a>, NoMemory>
         ensures begins { IfOk result (λ play. play_of play ≡ begun_play (tree_of accepted.now.program.term)) }
         ensures played { IfOk result (λ play. IsPlayedWeakly (play_of play)) }
@@ -43,28 +43,28 @@ impl<'a> Play<'a> {
         })
     }
 
-    /// The weak state to which the labels lead.
+    /// Returns the weak state to which the labels lead.
     pub fn state(&self) -> &WeakState
         ensures { weak_of result.now ≡ (play_of self.now).weak }
     {
         &self.state
     }
 
-    /// The labels so far.
+    /// Returns the labels so far.
     pub fn labels(&self) -> &[Label]
         ensures { result.now ≡ (play_of self.now).labels }
     {
         self.labels.as_slice()
     }
 
-    /// The least location above all that the labels made.
+    /// Returns the least location above all that the labels made.
     pub fn fresh(&self) -> Loc
         ensures { result.0 ≡ (play_of self.now).above }
     {
         Loc(self.above)
     }
 
-    /// The labels up to the last moment with nothing active, over their memory.
+    /// Returns the labels up to the last moment with nothing active, in the memory that they have.
     pub fn into_settled(self) -> Vec<Label>
         ensures { result.items ≡ take (play_of self.entry).settled (play_of self.entry).labels }
     {
@@ -79,9 +79,9 @@ impl<'a> Play<'a> {
         labels
     }
 
-    /// Makes one label. Want of memory is answered also where numbers or locations have run out.
+    /// Makes one label. Returns out of memory also if numbers or locations have run out.
     pub fn make(&mut self, alloc: Global, label: Label) -> Result<(), StepFail>
-        ensures ok { OnOk result (HasMade label (play_of self.old) (play_of self.new)) }
+        ensures ok { OnOk result (HasMadeLabel label (play_of self.old) (play_of self.new)) }
         ensures illegal { result ≡ Err StepFail.Illegal → weak_after (play_of self.old).weak label ≡ None }
         ensures err { OnErr result (play_of self.new ≡ play_of self.old) }
         ensures played { IsPlayedWeakly (play_of self.old) → IsPlayedWeakly (play_of self.new) }
@@ -97,7 +97,7 @@ impl<'a> Play<'a> {
         Ok(())
     }
 
-    /// The least location above all that the labels and one more make.
+    /// Returns the least location above all that the labels and one more make.
     fn above_with(&self, label: Label) -> Result<u32, NoMemory>
         ensures { IfOk result (λ above. above ≡ max (play_of self.now).above (behind_location (label_location label))) }
     {

@@ -1,6 +1,6 @@
 //! A run that makes its choices.
 
-ghost use Rattle.std.specs.Prelude.{◌≡◌, ◌+◌, ◌-◌, ◌<◌, ◌≤◌, [], ◌∷◌, ◌++◌, false, length, List, None, IfOk, OnOk, OnErr};
+ghost use Rattle.std.specs.Prelude.{◌≡◌, ◌+◌, ◌-◌, ◌<◌, ◌≤◌, [], ◌∷◌, ◌++◌, false, length, List, None, Some, IfOk, OnOk, OnErr};
 ghost use Rattle.ame_term.specs.View.{tree_of};
 ghost use Rattle.ame_device.specs.declared.told.Told.{Told};
 ghost use Rattle.ame_journal.specs.Labels.{fragment_labels};
@@ -28,14 +28,15 @@ pub struct Run<'a> {
 
 impl<'a> Run<'a> {
     ghost use Rattle.ame_runner.specs.Labels.{label_location, behind_location};
-    ghost use Rattle.ame_runner.specs.Play.{HasMade};
     ghost use Rattle.ame_runner.specs.Trial.{last_turn, IsTriedOut};
     ghost use Rattle.ame_runner.specs.Freeing.{MakesOnly};
     ghost use Rattle.ame_runner.specs.Run.{IsOwn, HasRun, IsRunning, IsAtStart, KeepsFrame, CountsNothing, RunsOrEnds, CanBeEnded};
     ghost use Rattle.ame_runner.specs.Stop.{HearsOn, GrowsOrEnds, HasAttempted};
+    ghost use Rattle.ame_runner.specs.Drawn.{GoesOn, GrowsInAttempt, last_label};
+    ghost use Rattle.ame_runner.specs.Drawing.{HasCounted, HasRunOut, HasTried, KeepsCourse};
     ghost use Rattle.ame_runner.specs.View.{run_of};
 
-    /// Before the first label, with this limit of turns.
+    /// Returns a run before its first label, with this limit of turns.
     pub fn start(alloc: Global, accepted: &'a Accepted, limit: u32) -> Result<Run<'a>, NoMemory>
         ensures runs { IfOk result (λ run. IsRunning (run_of run)) }
         ensures begins { IfOk result (λ run. IsAtStart (tree_of accepted.now.program.term) limit (run_of run)) }
@@ -72,6 +73,7 @@ impl<'a> Run<'a> {
         ensures hears { OnOk result ((told : List Told) → HearsOn None (run_of self.old) (run_of self.new) told told) }
         ensures counts { OnOk result (CountsNothing (run_of self.old) (run_of self.new)) }
         ensures left { OnOk result (length (run_of self.new).left + 1 ≡ length (run_of self.old).left) }
+        ensures goes { OnOk result (GoesOn (run_of self.old) (run_of self.new)) }
     {
         match self.left.pop_front() {
             Some(label) => self.make(alloc, label),
@@ -86,6 +88,7 @@ impl<'a> Run<'a> {
         ensures hears { OnOk result ((told : List Told) → HearsOn None (run_of self.old) (run_of self.new) told told) }
         ensures counts { OnOk result (CountsNothing (run_of self.old) (run_of self.new)) }
         ensures none { OnOk result ((run_of self.new).left ≡ []) }
+        ensures out { OnOk result (HasRunOut (run_of self.old) (run_of self.new)) }
     {
         while !self.left.is_empty() {
             self.go_on(alloc)?;
@@ -99,7 +102,7 @@ impl<'a> Run<'a> {
         requires turns { (run_of self.old).turns < (run_of self.old).limit }
         ensures frame { KeepsFrame (run_of self.old) (run_of self.new) }
         ensures runs { IsRunning (run_of self.old) → RunsOrEnds result (run_of self.new) }
-        ensures made { OnOk result (HasMade label (run_of self.old).play (run_of self.new).play) }
+        ensures counts { OnOk result (HasCounted label (run_of self.old) (run_of self.new)) }
     {
         self.make(alloc, label)?;
         self.above = self.above.max(self.play.fresh().0);
@@ -107,8 +110,8 @@ impl<'a> Run<'a> {
         Ok(())
     }
 
-    /// Tries a member that may become active. Where it leaves or ends, its labels are to be made; where it grows too
-    /// tall, the note of that is told; else it is noted.
+    /// Tries a member that may become active. If it leaves or ends, its labels are planned. If it comes to a value that is
+    /// too high, this returns the note about that. Otherwise the try is noted.
     pub(crate) fn attempt(&mut self, alloc: Global, number: u64) -> Result<Option<Entry>, NoMemory>
         requires idle { (run_of self.old).play.weak.state.active ≡ None }
         requires turns { (run_of self.old).turns < (run_of self.old).limit }
@@ -118,6 +121,7 @@ impl<'a> Run<'a> {
         ensures ok { IfOk result (λ grown. IsRunning (run_of self.old) → HasAttempted grown (run_of self.new)) }
         ensures err { OnErr result (IsRunning (run_of self.old) → CanBeEnded (run_of self.new)) }
         ensures play { (run_of self.new).play ≡ (run_of self.old).play }
+        ensures tried { IfOk result (HasTried number (run_of self.old) (run_of self.new)) }
     {
         let turns = self.limit - self.turns;
         let tried = try_member(alloc, self.play.state(), Loc(self.above), number, turns)?;
@@ -129,7 +133,7 @@ impl<'a> Run<'a> {
         Ok(None)
     }
 
-    /// A fragment that was tried is to be made, or is noted.
+    /// Plans a fragment that was tried, or notes the try.
     fn take(&mut self, alloc: Global, number: u64, tried: &TriedOut) -> Result<(), NoMemory>
         requires idle { (run_of self.old).play.weak.state.active ≡ None }
         requires free { (run_of self.old).aside number ≡ false }
@@ -140,6 +144,7 @@ impl<'a> Run<'a> {
         ensures frame { KeepsFrame (run_of self.old) (run_of self.new) }
         ensures runs { IsRunning (run_of self.old) → RunsOrEnds result (run_of self.new) }
         ensures play { (run_of self.new).play ≡ (run_of self.old).play }
+        ensures tried { OnOk result (HasTried number (run_of self.old) (run_of self.new) None) }
     {
         match tried.outcome {
             Outcome::Leaves => self.begin(number, tried, Label::Leave),
@@ -148,7 +153,7 @@ impl<'a> Run<'a> {
         }
     }
 
-    /// A fragment that was tried grew too tall, and its turns are counted.
+    /// Counts the turns of a fragment that came to a value that is too high, and returns the note about it.
     fn grow(&mut self, alloc: Global, number: u64, tried: &TriedOut) -> Result<Entry, NoMemory>
         requires idle { (run_of self.old).play.weak.state.active ≡ None }
         requires tried { IsTriedOut (run_of self.old).play.weak number (run_of self.old).above ((run_of self.old).limit - (run_of self.old).turns) tried.now }
@@ -158,22 +163,27 @@ impl<'a> Run<'a> {
         ensures frame { KeepsFrame (run_of self.old) (run_of self.new) }
         ensures runs { IsRunning (run_of self.old) → GrowsOrEnds result (run_of self.new) }
         ensures play { (run_of self.new).play ≡ (run_of self.old).play }
+        ensures grown { IfOk result (GrowsInAttempt number (run_of self.old) (run_of self.new).turns) }
+        ensures kept { OnOk result (KeepsCourse (run_of self.old) (run_of self.new)) }
     {
         let entry = tall_of(alloc, number, tried)?;
         self.turns += tried.turns;
         Ok(entry)
     }
 
-    /// The labels of a fragment that was tried are to be made.
+    /// Plans the labels of a fragment that was tried.
     fn begin(&mut self, number: u64, tried: &TriedOut, last: Label) -> Result<(), NoMemory>
         requires tried { IsTriedOut (run_of self.old).play.weak number (run_of self.old).above ((run_of self.old).limit - (run_of self.old).turns) tried.now }
         requires turn { last_turn tried.now.outcome ≡ 1 }
         requires none { behind_location (label_location last) ≡ 0 }
         requires own { IsOwn last }
         requires turns { (run_of self.old).turns < (run_of self.old).limit }
+        requires left { (run_of self.old).left ≡ [] }
+        requires ends { last_label tried.now.outcome ≡ Some last }
         ensures frame { KeepsFrame (run_of self.old) (run_of self.new) }
         ensures runs { IsRunning (run_of self.old) → RunsOrEnds result (run_of self.new) }
         ensures play { (run_of self.new).play ≡ (run_of self.old).play }
+        ensures tried { OnOk result (HasTried number (run_of self.old) (run_of self.new) None) }
     {
         add_labels(&mut self.left, number, &tried.kinds, last)?;
         self.above = tried.above;
@@ -181,7 +191,7 @@ impl<'a> Run<'a> {
         Ok(())
     }
 
-    /// A fragment that was tried is noted, as one that came to nothing.
+    /// Notes a try that came to nothing.
     fn note(&mut self, alloc: Global, number: u64, tried: &TriedOut) -> Result<(), NoMemory>
         requires low { tried.now.outcome ≡ Outcome.Tall → ⊥ }
         requires idle { (run_of self.old).play.weak.state.active ≡ None }
@@ -193,6 +203,7 @@ impl<'a> Run<'a> {
         ensures frame { KeepsFrame (run_of self.old) (run_of self.new) }
         ensures runs { IsRunning (run_of self.old) → RunsOrEnds result (run_of self.new) }
         ensures play { (run_of self.new).play ≡ (run_of self.old).play }
+        ensures tried { OnOk result (HasTried number (run_of self.old) (run_of self.new) None) }
     {
         let after = self.play.labels().len() as u64;
         let t = note_of(alloc, after, number, tried)?;
@@ -202,7 +213,7 @@ impl<'a> Run<'a> {
     }
 }
 
-/// The labels of a fragment join others.
+/// Appends the labels of a fragment.
 fn add_labels(
     left: &mut VecDeque<Label>,
     number: u64,

@@ -1,12 +1,14 @@
 //! A whole run of the weak semantics.
 
-ghost use Rattle.std.specs.Prelude.{◌≡◌, ◌≤◌, ◌⊎◌, take, length, true, List, Some, []};
+ghost use Rattle.std.specs.Prelude.{◌≡◌, ◌≢◌, ℕ, ◌≤◌, ◌⊎◌, take, length, true, List, Some, []};
+ghost use Rattle.ame_term.specs.Tree.{Tree};
 ghost use Rattle.ame_term.specs.View.{tree_of};
 ghost use Rattle.ame_device.specs.declared.told.Told.{Told};
 ghost use Rattle.ame_device.specs.Calls.{all_told};
 ghost use Rattle.ame_runner.specs.Ended.{IsWeakRunOf, TellsStop};
-ghost use Rattle.ame_runner.specs.Run.{IsRunning};
+ghost use Rattle.ame_runner.specs.Run.{IsRunning, IsAtStart};
 ghost use Rattle.ame_runner.specs.Stop.{HeardSoFar};
+ghost use Rattle.ame_runner.specs.Drawn.{IsDrawn};
 ghost use Rattle.ame_runner.specs.View.{run_of};
 ghost use Rattle.ame_runner.specs.declared.stop.WeakStop.{WeakStop as Stop};
 
@@ -17,9 +19,9 @@ use ame_gen::{Numbers, SEED_LIMIT};
 use ame_term::Accepted;
 use std::alloc::Global;
 
-/// Runs a program as a weakly atomic runtime would, and takes this many turns at most. The seed begins the stream of
-/// numbers that decides who goes on. Each label that is made, and each step of a fragment that is tried, takes a
-/// turn. After want of memory devices may have heard more than the labels tell.
+/// Runs a program as a weakly atomic runtime would, with at most `turns` turns. The seed begins the stream of numbers
+/// that decides which member goes on. Every label takes a turn, and so does every step of a fragment that is tried. When
+/// out of memory, devices may have heard more than the labels show.
 pub fn weak_run<D: Device>(
     alloc: Global,
     accepted: &Accepted,
@@ -32,6 +34,8 @@ pub fn weak_run<D: Device>(
     ensures run { IsWeakRunOf (tree_of accepted.now.program.term) turns result.labels.items result.tries.items result.stop }
     ensures stop { TellsStop (tree_of accepted.now.program.term) turns result.labels.items result.tries.items result.turns
         (all_told D.device_heard D.device_faults devices.old.items) (all_told D.device_heard D.device_faults devices.new.items) result.stop }
+    ensures drawn { result.stop ≢ Stop.NoMemory
+        → IsDrawn (tree_of accepted.now.program.term) turns seed result.labels.items result.tries.items result.turns result.stop }
 {
     match Run::start(alloc, accepted, turns) {
         Ok(run) => play_out(alloc, run, seed, devices),
@@ -48,6 +52,8 @@ fn play_out<D: Device>(alloc: Global, run: Run<'_>, seed: u32, devices: &mut Vec
         → HeardSoFar (run_of run.entry) (all_told D.device_heard D.device_faults devices.old.items) (all_told D.device_heard D.device_faults devices.old.items)
         → TellsStop (run_of run.entry).play.program (run_of run.entry).limit result.labels.items result.tries.items result.turns
         (all_told D.device_heard D.device_faults devices.old.items) (all_told D.device_heard D.device_faults devices.new.items) result.stop }
+    ensures drawn { (program : Tree) (limit : ℕ) → IsRunning (run_of run.entry) → IsAtStart program limit (run_of run.entry) → result.stop ≢ Stop.NoMemory
+        → IsDrawn program limit seed result.labels.items result.tries.items result.turns result.stop }
 {
     let mut run = run;
     let mut numbers = Numbers::new(seed);
@@ -57,7 +63,7 @@ fn play_out<D: Device>(alloc: Global, run: Run<'_>, seed: u32, devices: &mut Vec
     }
 }
 
-/// What is told where there is no memory to begin.
+/// Returns the report of a run that had no memory to begin.
 fn not_begun(alloc: Global) -> WeakRun
     ensures labels { result.labels.items ≡ [] }
     ensures tries { result.tries.items ≡ [] }
@@ -71,7 +77,7 @@ fn not_begun(alloc: Global) -> WeakRun
     }
 }
 
-/// Whether a try may have been cut off with this stop.
+/// Returns whether a try may have been cut off with this stop.
 fn may_be_cut(stop: &WeakStop) -> bool
     ensures { result ≡ true → stop.now ≡ Stop.Spent }
 {
@@ -88,14 +94,17 @@ fn may_be_cut(stop: &WeakStop) -> bool
 impl<'a> Run<'a> {
     ghost use Rattle.ame_runner.specs.Run.{CanBeEnded};
     ghost use Rattle.ame_runner.specs.Stop.{FailsBy, HasStoppedWeakly, RunsUntil};
+    ghost use Rattle.ame_runner.specs.Drawing.{IsReportOf};
 
-    /// What is told of it, where it stops so.
+    /// Returns the report of the run with this stop. If a try was cut off for want of turns, only that stop fits.
     fn end(self, stop: WeakStop) -> WeakRun
         ensures run { CanBeEnded (run_of self.entry) → IsWeakRunOf (run_of self.entry).play.program (run_of self.entry).limit result.labels.items result.tries.items result.stop }
         ensures stop { RunsUntil (Some stop) (run_of self.entry) → HasStoppedWeakly stop (run_of self.entry) → (before now : List Told)
             → HeardSoFar (run_of self.entry) before now → FailsBy (Some stop) before now
             → TellsStop (run_of self.entry).play.program (run_of self.entry).limit result.labels.items result.tries.items result.turns before now result.stop }
         ensures kept { (result.stop ≡ stop) ⊎ (result.stop ≡ Stop.NoMemory) }
+        ensures report { (result.stop ≡ Stop.NoMemory)
+            ⊎ IsReportOf (run_of self.entry) stop result.labels.items result.tries.items result.turns result.stop }
     {
         let mut run = self;
         if may_be_cut(&stop) {
@@ -107,7 +116,7 @@ impl<'a> Run<'a> {
         run.told(stop)
     }
 
-    /// Its labels up to the last moment with nothing active, its tries and its turns.
+    /// Returns its labels up to the last moment with nothing active, its tries and its turns.
     fn told(self, stop: WeakStop) -> WeakRun
         ensures labels { result.labels.items ≡ take (run_of self.entry).play.settled (run_of self.entry).play.labels }
         ensures tries { result.tries.items ≡ (run_of self.entry).tries }

@@ -1,4 +1,4 @@
-//! Why a run stops, and what is told of it.
+//! The reasons for which a run stops, and its report.
 
 use ame_journal::{Certificate, Entry};
 use ame_term::Label;
@@ -9,13 +9,13 @@ use ame_weak::Try;
 pub enum WeakStop {
     /// No member is left.
     Finished,
-    /// Each member fails, as these certificates tell.
+    /// Every member fails, as these certificates show.
     Blocked(Vec<Certificate>),
     /// The turns are used up.
     Spent,
     /// This device failed.
     DeviceFault(u8),
-    /// A member was about to become a value 1,001 high, as this note tells.
+    /// A member was about to become a value 1,001 high, as this note shows.
     Tall(Entry),
     NoMemory,
 }

@@ -21,14 +21,14 @@ impl<'a> Run<'a> {
     ghost use Rattle.ame_runner.specs.Stop.{certified_numbers, MayGoOn, FoundAtRest, HasCertified};
     ghost use Rattle.ame_runner.specs.View.{run_of};
 
-    /// Whether a member is active.
+    /// Returns whether a member is active.
     pub(crate) fn is_busy(&self) -> bool
         ensures { result ≡ false → (run_of self.now).play.weak.state.active ≡ None }
     {
         self.play.state().active().is_some()
     }
 
-    /// Whether no member is left.
+    /// Returns whether no member is left.
     fn is_over(&self) -> bool
         ensures yes { result ≡ true → length (pool (run_of self.now).play.weak.state) ≡ 0 }
         ensures no { result ≡ false → length (pool (run_of self.now).play.weak.state) ≡ 0 → ⊥ }
@@ -36,7 +36,7 @@ impl<'a> Run<'a> {
         self.play.state().strong().pool_len() == 0
     }
 
-    /// Whether the turns are used up.
+    /// Returns whether the turns are used up.
     pub(crate) fn is_spent(&self) -> bool
         ensures yes { result ≡ true → (run_of self.now).limit ≤ (run_of self.now).turns }
         ensures no { result ≡ false → (run_of self.now).turns < (run_of self.now).limit }
@@ -44,14 +44,14 @@ impl<'a> Run<'a> {
         self.turns >= self.limit
     }
 
-    /// Those who may go on, by rising number.
+    /// Returns the members that may go on, in order of their numbers.
     pub(crate) fn who_may(&self, alloc: Global) -> Result<Vec<u64>, NoMemory>
         ensures { IfOk result (λ may. may.items ≡ candidates (run_of self.now).play.weak (run_of self.now).aside) }
     {
         candidates(alloc, self.play.state(), self.notes.aside())
     }
 
-    /// Whether nobody may go on.
+    /// Returns whether no member may go on.
     fn is_stuck(&self, alloc: Global) -> Result<bool, NoMemory>
         ensures yes { IfOk result (λ stuck. stuck ≡ true → candidates (run_of self.now).play.weak (run_of self.now).aside ≡ []) }
         ensures no { IfOk result (λ stuck. stuck ≡ false → MayGoOn (run_of self.now)) }
@@ -60,7 +60,7 @@ impl<'a> Run<'a> {
         Ok(may.is_empty())
     }
 
-    /// The stop that is found while nothing is active, if one is. Where it is none, turns are left.
+    /// Returns the stop of the run while nothing is active, if it stops here. Otherwise turns are left.
     pub(crate) fn stop_at_rest(&self, alloc: Global) -> Result<Option<WeakStop>, NoMemory>
         requires { (run_of self.now).left ≡ [] }
         ensures { IfOk result (FoundAtRest (run_of self.now)) }
@@ -82,7 +82,7 @@ impl<'a> Run<'a> {
         Ok(None)
     }
 
-    /// The certificates of all members, each of which fails.
+    /// Returns the certificates of all members if every member fails.
     fn certificates(&self, alloc: Global) -> Result<Vec<Certificate>, NoMemory>
         requires { (run_of self.now).play.weak.state.active ≡ None }
         ensures fail { IfOk result (λ certificates. IsRunning (run_of self.now)
@@ -116,7 +116,7 @@ impl<'a> Run<'a> {
         Ok(())
     }
 
-    /// The certificate of a member that fails.
+    /// Returns the certificate of a member that fails.
     fn certificate(&self, alloc: Global, number: u64) -> Result<Certificate, NoMemory>
         requires { (run_of self.now).play.weak.state.active ≡ None }
         ensures number { IfOk result (λ c. c.number ≡ number) }

@@ -17,22 +17,22 @@ ghost use Rattle.ame_runner.specs.declared.trial.TriedOut.{TriedOut};
 
 use ame_term::Accepted;
 
-/// What was tried out on a copy of a weak state of an accepted program, where nothing was active, holds there: its
-/// steps can be made, and where it failed, they come to a condition that is false.
+/// States that a fragment that was tried on a copy of a weak state with nothing active can be run there: its steps can
+/// be made, and if it failed, they come to a condition that is false. The program is accepted.
 pub fn tried_fragments_hold(accepted: &Accepted)
     ensures { (labels : List Label) (w : Weak) (i first turns : ℕ) (tried : TriedOut) (t : Try) → IsWeakRun (tree_of accepted.now.program.term) labels w
         → w.state.active ≡ None → IsTriedOut w i first turns tried → IsTryOf i tried t → HoldsIn w t }
 {}
 
-/// The labels of a run that ends with nothing active, and the steps and activations of its tries, are together at most
-/// three times the steps and entries that its journal tells, with the notes of the tries.
+/// States that a run's labels and the steps and activations of its tries are together at most three times the steps and
+/// entries of its journal, with the notes of the tries. The run ends with nothing active.
 pub fn turns_are_told()
     ensures { (program : Tree) (labels : List Label) (tries : List Try) (w : Weak) → IsWeakRun program labels w → w.state.active ≡ None
         → AreTriesInOrder 0 (length labels) tries → length labels + turns_of_tries tries ≤ 3 * total_steps (straight_with 0 tries outset labels) }
 {}
 
-/// In the journal of a weak run, between two notes of one member which tell that it came to a condition that is false, a fragment left or ended, or
-/// unprotected code made a location.
+/// States that between two notes of one member that came to a false condition, the journal of a weak run has a fragment
+/// that left or ended, or a location that unprotected code made.
 pub fn notes_stand_apart()
     ensures { (program : Tree) (labels : List Label) (tries : List Try) (w : Weak) → IsWeakRun program labels w → AreTriesInOrder 0 (length labels) tries
         → AreTried program labels tries → AreSpaced labels tries → AreNotedApart (straight_with 0 tries outset labels) }

@@ -1,8 +1,10 @@
-use Rattle.std.proofs.Common.{inl, inr}
+use Rattle.std.proofs.Common.{ℕ, inl, inr, sym, subst}
 use Rattle.ame_device.specs.Calls.{all_told}
 use Rattle.ame_term.specs.View.{tree_of}
 use Rattle.ame_runner.specs.View.{run_of}
 use Rattle.ame_runner.proofs.EndLemmas.{until-ends, run-over, tells-over, tells-nothing}
+use Rattle.ame_runner.specs.Drawn.{Course}
+use Rattle.ame_runner.proofs.DrawLemmas.{drawn-report}
 use Rattle.ame_runner.proofs.running.play_out.Goals as goal
 
 pub returns-in-Ok-clause-run : goal.returns-in-Ok-clause-run
@@ -30,3 +32,16 @@ returns-in-Err-clause-stop g c = λ running heard.
     (all_told g.D.Device.device_heard g.D.Device.device_faults c.args.devices.now.items)
     (all_told g.D.Device.device_heard g.D.Device.device_faults c.play_on.new.devices.items) c.end-in-Err.result.stop
     (elim c.end-in-Err.ensures.kept [ inl e ↦ e | inr e ↦ e ])
+
+pub returns-in-Ok-clause-drawn : goal.returns-in-Ok-clause-drawn
+returns-in-Ok-clause-drawn g c = λ program limit running start able.
+    let r = run_of c.args.run in
+    let q = run_of c.play_on.new.self in
+    let x = c.in-Ok.ensures.plays running in
+    drawn-report program limit c.args.seed q c.in-Ok.stop c.end.result.labels.items c.end.result.tries.items c.end.result.turns c.end.result.stop
+    (until-ends c.in-Ok.stop q x.0) x.2 c.end.ensures.report able
+    (c.in-Ok.ensures.drawn program limit c.args.seed running
+    (subst (λ (n : ℕ). Course program limit c.args.seed n r) (sym c.new-numbers.ensures) (Course.starts r start)))
+
+pub returns-in-Err-clause-drawn : goal.returns-in-Err-clause-drawn
+returns-in-Err-clause-drawn g c = λ program limit running start able. absurd (able (elim c.end-in-Err.ensures.kept [ inl e ↦ e | inr e ↦ e ]))

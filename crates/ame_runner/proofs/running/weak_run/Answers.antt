@@ -28,3 +28,9 @@ returns-in-Err-clause-stop g c =
     let now = all_told g.D.Device.device_heard g.D.Device.device_faults c.args.devices.now.items in
     tells-nothing (tree_of c.args.accepted.now.program.term) c.args.turns c.not_begun.result.labels.items c.not_begun.result.tries.items c.not_begun.result.turns now now
     c.not_begun.result.stop c.not_begun.ensures.stop
+
+pub returns-in-Ok-clause-drawn : goal.returns-in-Ok-clause-drawn
+returns-in-Ok-clause-drawn g c = λ able. c.play_out.ensures.drawn (tree_of c.args.accepted.now.program.term) c.args.turns c.in-Ok.ensures.runs c.in-Ok.ensures.begins able
+
+pub returns-in-Err-clause-drawn : goal.returns-in-Err-clause-drawn
+returns-in-Err-clause-drawn g c = λ able. absurd (able c.not_begun.ensures.stop)

@@ -1,6 +1,6 @@
 use Rattle.std.proofs.Common.{rules, ◌∙◌, max, sym, ap, subst, refl}
 use Rattle.ame_weak.specs.View.{weak_of}
-use Rattle.ame_runner.specs.Play.{PlayView, IsPlayedWeakly, HasMade}
+use Rattle.ame_runner.specs.Play.{PlayView, IsPlayedWeakly, HasMadeLabel}
 use Rattle.ame_runner.specs.View.{play_of}
 use Rattle.ame_runner.specs.Labels.{label_location, behind_location}
 use Rattle.ame_runner.proofs.PlayLemmas.{played-made}
@@ -16,7 +16,7 @@ returns-then-is_none-clause-ok c =
       above = c.in_ok-above.above;
       settled = c.len-self.result;
     } in
-    let made : HasMade c.args.label (play_of c.room.new.self) q = record {
+    let made : HasMadeLabel c.args.label (play_of c.room.new.self) q = record {
       program = refl;
       labels = c.push_reserved.ensures.items;
       legal = c.in_ok-step.ensures.ok;
@@ -24,7 +24,7 @@ returns-then-is_none-clause-ok c =
       above = c.in_ok-above.ensures ∙ ap (λ (p : PlayView). max p.above (behind_location (label_location c.args.label))) (sym same);
       settled = search rules;
     } in
-    subst (λ (p : PlayView). HasMade c.args.label p q) same made
+    subst (λ (p : PlayView). HasMadeLabel c.args.label p q) same made
 
 pub returns-then-is_none-clause-played : goal.returns-then-is_none-clause-played
 returns-then-is_none-clause-played c = λ played.
@@ -36,7 +36,7 @@ returns-then-is_none-clause-played c = λ played.
       above = c.in_ok-above.above;
       settled = c.len-self.result;
     } in
-    let made : HasMade c.args.label (play_of c.room.new.self) q = record {
+    let made : HasMadeLabel c.args.label (play_of c.room.new.self) q = record {
       program = refl;
       labels = c.push_reserved.ensures.items;
       legal = c.in_ok-step.ensures.ok;
@@ -56,7 +56,7 @@ returns-else-is_none-clause-ok c =
       above = c.in_ok-above.above;
       settled = c.room.new.self.settled;
     } in
-    let made : HasMade c.args.label (play_of c.room.new.self) q = record {
+    let made : HasMadeLabel c.args.label (play_of c.room.new.self) q = record {
       program = refl;
       labels = c.push_reserved.ensures.items;
       legal = c.in_ok-step.ensures.ok;
@@ -64,7 +64,7 @@ returns-else-is_none-clause-ok c =
       above = c.in_ok-above.ensures ∙ ap (λ (p : PlayView). max p.above (behind_location (label_location c.args.label))) (sym same);
       settled = search rules;
     } in
-    subst (λ (p : PlayView). HasMade c.args.label p q) same made
+    subst (λ (p : PlayView). HasMadeLabel c.args.label p q) same made
 
 pub returns-else-is_none-clause-played : goal.returns-else-is_none-clause-played
 returns-else-is_none-clause-played c = λ played.
@@ -76,7 +76,7 @@ returns-else-is_none-clause-played c = λ played.
       above = c.in_ok-above.above;
       settled = c.room.new.self.settled;
     } in
-    let made : HasMade c.args.label (play_of c.room.new.self) q = record {
+    let made : HasMadeLabel c.args.label (play_of c.room.new.self) q = record {
       program = refl;
       labels = c.push_reserved.ensures.items;
       legal = c.in_ok-step.ensures.ok;

@@ -4,8 +4,9 @@ use Rattle.ame_journal.specs.declared.entry.Entry.{Entry}
 use Rattle.ame_laws.proofs.Typed.Started.{accepted}
 use Rattle.ame_runner.specs.Trial.{last_turn}
 use Rattle.ame_runner.specs.View.{run_of}
-use Rattle.ame_runner.proofs.HoldLemmas.{tried_grow_tall}
+use Rattle.ame_runner.proofs.HoldLemmas.{tried_grow_tall, tall-within}
 use Rattle.ame_runner.proofs.ChooseLemmas.{attempts-tall}
+use Rattle.ame_runner.proofs.DrawLemmas.{keeps-still}
 use Rattle.ame_runner.proofs.run.Run.grow.Goals as goal
 
 pub returns-clause-runs : goal.returns-clause-runs
@@ -22,8 +23,18 @@ returns-clause-runs c = λ running.
     let p = tree_of a.program.term in
     let refs = map typ_of a.ref_tys.items in
     attempts-tall old (record old { turns = old.turns + tried.turns }) entry (old.turns + tried.turns) refl (omega (arith, counted, turn, steps)) (omega (arith, most, within))
-    c.requires.left c.requires.idle
-    (tried_grow_tall a.devices a.program.places.items p refs
-    (accepted a.devices a.program.places.items p refs a.typed) a.program.source a.program.numbered
-    old.play.labels old.play.weak c.args.number old.above _ tried entry running.played.leads running.played.within c.requires.idle c.requires.tried c.requires.tall c.in_ok-entry.ensures)
+    c.requires.left c.requires.idle (
+      (tried_grow_tall a.devices a.program.places.items p refs
+          (accepted a.devices a.program.places.items p refs a.typed) a.program.source a.program.numbered
+          old.play.labels old.play.weak c.args.number old.above _ tried entry running.played.leads running.played.within c.requires.idle c.requires.tried c.requires.tall c.in_ok-entry.ensures),
+      tall-within old.play.weak c.args.number old.above _ tried c.requires.tried entry c.in_ok-entry.ensures,
+    )
     running
+
+pub returns-clause-grown : goal.returns-clause-grown
+returns-clause-grown c = record { tried = c.args.tried.now; attempt = c.requires.tried; tall = c.requires.tall; note = c.in_ok-entry.ensures; counted = refl }
+
+pub returns-clause-kept : goal.returns-clause-kept
+returns-clause-kept c =
+    let old = run_of c.args.self.now in
+    keeps-still old (record old { turns = old.turns + c.args.tried.now.turns }) c.requires.left refl refl

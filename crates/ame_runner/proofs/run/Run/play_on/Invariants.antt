@@ -1,7 +1,9 @@
-use Rattle.std.proofs.Common.{◌≡◌, None, length}
+use Rattle.std.proofs.Common.{◌≡◌, ℕ, None, length}
+use Rattle.ame_term.specs.Tree.{Tree}
 use Rattle.ame_device.specs.Calls.{all_told}
 use Rattle.ame_runner.specs.Run.{IsRunning, KeepsFrame}
 use Rattle.ame_runner.specs.Stop.{HearsOn}
+use Rattle.ame_runner.specs.Drawn.{Course}
 use Rattle.ame_runner.specs.View.{run_of}
 use Rattle.ame_runner.proofs.run.Run.play_on.Given as goal
 
@@ -13,4 +15,7 @@ invariant-loop g l = record {
   hears :
       HearsOn None (run_of l.initial.self) (run_of l.self) (all_told g.D.Device.device_heard g.D.Device.device_faults l.initial.devices.items)
       (all_told g.D.Device.device_heard g.D.Device.device_faults l.devices.items);
+  drawn :
+      (program : Tree) (limit seed : ℕ) → IsRunning (run_of l.initial.self) → Course program limit seed l.initial.numbers (run_of l.initial.self)
+      → Course program limit seed l.numbers (run_of l.self);
 }

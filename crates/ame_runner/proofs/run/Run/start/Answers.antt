@@ -14,6 +14,8 @@ returns-clause-begins c = record {
   play = c.in_ok-start.ensures.begins;
   tries = c.new.ensures.tries;
   left = c.new-2.ensures.items;
+  aside = c.new.ensures.aside;
+  above = refl;
   turns = refl;
   limit = refl;
 }

@@ -1,5 +1,5 @@
 -- Why there is no code of a text.
-use Rattle.std.proofs.Common.{◌≡◌, ℕ, inr, [], Option, Some, None, Result, Ok, Err, IfSome, IfOk, sym, ap, subst, Vec, Global}
+use Rattle.std.proofs.Common.{◌≡◌, ◌≢◌, ℕ, inr, [], Option, Some, None, Result, Ok, Err, IfSome, IfOk, sym, ap, subst, Vec, Global}
 use Rattle.ame_lex.specs.Bytes.{Text}
 use Rattle.ame_lex.specs.declared.tokens.LexFault.{LexFault}
 use Rattle.ame_lex.specs.declared.tokens.Token.{Token}
@@ -37,6 +37,11 @@ text-refused one call command front text asked (Status.Types fault) ill =
     by_types fault (record { command = command; front = front; asked = asked; cause = ill })
 text-refused one call command front text asked Status.NoMemory free = by_memory (inr (command, front, asked)) (asked-left one call command front text asked)
 text-refused one call command front text asked status bad = absurd bad
+
+-- not as a fault of the sink
+pub text-other : (text : Text) (devices : ℕ) (status : Status) → IsTextStatus text devices status → status ≢ Status.WriteFault
+text-other text devices Status.WriteFault why = absurd why
+text-other text devices status why = λ e. absurd (cc)
 
 -- a value that may be there, with one property, has a weaker one
 pub some-weaker : {T : Type 0} (o : Option T) (P Q : T → Type 0) → ((x : T) → P x → Q x) → IfSome o P → IfSome o Q

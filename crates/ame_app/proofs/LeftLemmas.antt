@@ -33,7 +33,8 @@ use Rattle.ame_code.specs.FlatCode.{FlatCode}
 use Rattle.ame_value.specs.declared.val.Val.{Val}
 use Rattle.ame_eval.specs.Values.{value_meant, made_alike, meant_alike}
 use Rattle.ame_eval.specs.declared.fragment.Fragment.{Fragment}
-use Rattle.ame_app.specs.Jobs.{fragments, are_alike, IsLeftOf, LeadsToLeft}
+use Rattle.ame_app.specs.Fragments.{fragments}
+use Rattle.ame_app.specs.Jobs.{are_alike, IsLeftOf, LeadsToLeft}
 
 -- Types of locations are those of their cells
 

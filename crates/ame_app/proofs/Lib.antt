@@ -15,3 +15,4 @@ pub mod RunLemmas
 pub mod GivenLemmas
 pub mod CompleteLemmas
 pub mod PickLemmas
+pub mod PromisedLemmas

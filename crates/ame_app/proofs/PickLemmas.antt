@@ -12,17 +12,21 @@ use Rattle.ame_sim.specs.declared.picked.Picked.{Picked}
 use Rattle.ame_sim.specs.Questions.{questions, seats_of}
 use Rattle.ame_sim.specs.Schedule.{AreSeats, sign, signs}
 use Rattle.ame_sim.specs.Strategy.{PicksSeats}
-use Rattle.ame_machine.specs.Meaning.{Meaning}
 use Rattle.ame_journal.specs.declared.entry.Entry.{Entry}
+use Rattle.ame_code.specs.FlatCode.{FlatCode}
+use Rattle.ame_cli.specs.declared.command.Options.{Options}
+use Rattle.ame_protocol.specs.declared.types.Limits.{Limits}
 use Rattle.ame_value.specs.declared.val.Val.{Val}
 use Rattle.ame_engine.specs.Ending.{End}
-use Rattle.ame_shell.specs.Shell.{Opening}
+use Rattle.ame_shell.specs.Ends.{Ends}
 use Rattle.ame_sim.specs.declared.made.Made.{Made}
 use Rattle.ame_sim.specs.Picks.{picked_by, picks_of}
 use Rattle.ame_sim.specs.Run.{AreTold, IsPlayed}
 use Rattle.ame_app.specs.declared.left.Extra.{Extra}
 use Rattle.ame_app.specs.declared.left.Left.{Left}
-use Rattle.ame_app.specs.Verbs.Sim.{IsPicked}
+use Rattle.ame_app.specs.Fragments.{fragments}
+use Rattle.ame_app.specs.Headline.{limits_of}
+use Rattle.ame_app.specs.Verbs.Sim.{opening_of, IsPicked}
 
 -- the signs of picks, one after the other
 abbrev pub signs_picked : List Picked → List ℕ
@@ -73,17 +77,27 @@ pub seats-low : (picks : List Picked) (n : ℕ) → All (λ (pick : Picked). pic
 seats-low picks n low =
     All-map (λ (seat : ℕ). seat < 32) (λ (pick : Picked). pick.seat) (take n picks) (All-take (λ (pick : Picked). pick.seat < 32) n picks low)
 
-module _ {C M : Type 0} (meaning : Meaning C Val M) where
+module _ (limits : Limits) (before : Ends) (strategy later : List (List ℕ) → List ℕ) (mades : List Made) (extra : Extra) (end : End Val)
+    (is : extra ≡ Extra.Picked mades) where
   -- the picks of a run that was played are those of the strategy that answered
-  pub played-picked : (opening : Opening C) (strategy later : List (List ℕ) → List ℕ) (mades : List Made) (extra : Extra) (end : End Val)
-      → extra ≡ Extra.Picked mades → IsPlayed meaning opening mades end
-      → PicksSeats strategy (questions opening.limits.seats (picks_of mades)) (seats_of (picks_of mades)) later
-      → IsPicked strategy opening.limits.seats (Left.Engine end extra)
-  played-picked opening strategy later mades extra end is played answers = record {
+  pub played-picked : (code : FlatCode) → IsPlayed fragments (opening_of code limits before) mades end
+      → PicksSeats strategy (questions limits.seats (picks_of mades)) (seats_of (picks_of mades)) later
+      → IsPicked strategy code limits before (Left.Engine end extra)
+  played-picked code played answers = record {
     mades = mades;
     extra_is = ap Some is;
-    told = subst (λ (n : ℕ). AreTold opening.limits.seats n mades end.entries) (sym played.turns)
-        (subst (λ (es : List Entry). AreTold opening.limits.seats played.now.core.turns mades es) (sym played.entries) played.playing.told);
+    played = played;
+    told = subst (λ (n : ℕ). AreTold limits.seats n mades end.entries) (sym played.turns)
+        (subst (λ (es : List Entry). AreTold limits.seats played.now.core.turns mades es) (sym played.entries) played.playing.told);
     later = later;
     answers = answers;
   }
+
+  -- so it is for the code of which a share was run, with limits for which options ask
+  pub picked-with : (options : Options) (code share : FlatCode) → share ≡ code → limits ≡ limits_of options
+      → IsPlayed fragments (opening_of share limits before) mades end
+      → PicksSeats strategy (questions limits.seats (picks_of mades)) (seats_of (picks_of mades)) later
+      → IsPicked strategy code (limits_of options) before (Left.Engine end extra)
+  picked-with options code share same asked played answers =
+      subst (λ (k : FlatCode). IsPicked strategy k (limits_of options) before (Left.Engine end extra)) same
+      (subst (λ (l : Limits). IsPicked strategy share l before (Left.Engine end extra)) asked (played-picked share played answers))

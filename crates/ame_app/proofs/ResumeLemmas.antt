@@ -29,7 +29,8 @@ use Rattle.ame_app.specs.declared.parts.Front.{Front}
 use Rattle.ame_app.specs.declared.parts.Own.{Own}
 use Rattle.ame_app.specs.declared.status.Status.{Status}
 use Rattle.ame_app.specs.Headline.{limits_of}
-use Rattle.ame_app.specs.Jobs.{fragments, IsEngineOn, IsOpened}
+use Rattle.ame_app.specs.Fragments.{fragments}
+use Rattle.ame_app.specs.Jobs.{IsEngineOn, IsOpened}
 use Rattle.ame_app.specs.Verbs.Check.{entries_before}
 use Rattle.ame_app.specs.Verbs.Resume.{IsTallJournal, TellsOfBase, BeginsFromActs}
 use Rattle.ame_app.proofs.JudgedLemmas.{invalid-one, invalid-leads, long-one, long-short, one-number}

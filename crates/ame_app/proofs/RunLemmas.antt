@@ -14,7 +14,9 @@ use Rattle.ame_journal.specs.Replay.{replay}
 use Rattle.ame_journal.proofs.LabelLemmas.{unfold-all, unfolds_all-run}
 use Rattle.ame_protocol.specs.declared.types.Limits.{Limits}
 use Rattle.ame_protocol.specs.declared.types.Tried.{Tried}
+use Rattle.ame_laws.specs.Typed.Listed.{signature_of}
 use Rattle.ame_value.specs.declared.val.Val.{Val}
+use Rattle.ame_eval.specs.Values.{value_meant}
 use Rattle.ame_code.specs.FlatCode.{FlatCode}
 use Rattle.ame_code.specs.Code.{program_of}
 use Rattle.ame_cli.specs.declared.command.Options.{Options}
@@ -31,6 +33,7 @@ use Rattle.ame_engine.specs.Ending.{End, HasStopped, ShowsCounts}
 use Rattle.ame_shell.specs.Ends.{Ends}
 use Rattle.ame_device.specs.declared.told.Told.{Told}
 use Rattle.ame_shell.specs.Heard.{HaveHeardSince, HaveFailed}
+use Rattle.ame_shell.specs.Ran.{IsRanBy}
 use Rattle.ame_app.specs.declared.parts.Front.{Front}
 use Rattle.ame_app.specs.declared.parts.Own.{Own}
 use Rattle.ame_app.specs.declared.left.Extra.{Extra}
@@ -41,10 +44,10 @@ use Rattle.ame_app.specs.Calls.{Call}
 use Rattle.ame_app.specs.Causes.{status_at, status_of, RunCause, CommandCause}
 use Rattle.ame_app.specs.Left.{end_in, extra_in}
 use Rattle.ame_app.specs.Reported.{RunView, Reported}
-use Rattle.ame_app.specs.Headline.{limits_of, Headline, DevicesTell, DevicesTellOf, IsNotedOnceBy, ShowsTurns, journal_of, verdict_of, IsWritten}
+use Rattle.ame_app.specs.Headline.{limits_of, Headline, DevicesTell, DevicesTellOf, IsNotedOnceBy, IsRanOf, ShowsTurns, journal_of, verdict_of, IsWritten}
 use Rattle.ame_app.specs.Jobs.{IsJobOf, HasWeakStop, TellsWeakly, IsLeftOf, HasLeft, IsEngineRunMade, IsWeakRunMade, IsRunMade, Speaks, SpeaksBehind, SpeaksAfter}
 use Rattle.ame_app.specs.Verbs.{BeginsFrom, written_behind}
-use Rattle.ame_app.specs.Verbs.Weak.{alone_with}
+use Rattle.ame_app.specs.Verbs.Weak.{alone_with, IsDrawnAs}
 use Rattle.ame_app.proofs.WrittenLemmas.{after-lines, written-once, tells-fault, spoken-is}
 use Rattle.ame_app.proofs.CountLemmas.{certified-count}
 
@@ -99,6 +102,7 @@ record IsPlain (code : FlatCode) (command : Command) (end : End Val) (before aft
       → CommandCause command (status_of end) options end r before after
   once : IsNotedOnce (journal_of end) → IsNotedOnceBy command (journal_of end)
   shown : (limits : Limits) → ShowsCounts limits end → ShowsTurns command limits end
+  ran : (limits : Limits) → IsRanBy (program_of code) (signature_of code.accepted) limits end.base (value_meant code) end → IsRanOf command code limits end
 
 -- The headline
 
@@ -183,6 +187,9 @@ module _ (call : Call) (status : Status) (text : Text) (code : FlatCode) (front 
       spoken =
           spoken-is end.stop (status_of end) status (more command left) mid.written mid.write_faults after.written after.write_faults speaks;
       own = made.own_is;
+      ran = plain.ran (limits_of made.options)
+          (subst (λ (b : List Entry). IsRanBy (program_of code) (signature_of code.accepted) (limits_of made.options) b (value_meant code) end)
+          (sym made.over.base) made.over.ran);
       notes = made.over.ends.stopped.ends;
       once = plain.once made.over.ends.once;
       shown = plain.shown (limits_of made.options) made.over.ends.shown;
@@ -192,7 +199,8 @@ module _ (call : Call) (status : Status) (text : Text) (code : FlatCode) (front 
 
   -- a weak run
   module _ (seed turns : ℕ) (weakened : WeakEnd) (ahead : List ℕ) (job : IsJobOf call text code (Command.Weak seed turns) front)
-      (tells : TellsWeakly (program_of code) turns weakened before.told mid.told) (has_left : HasLeft code (limits_of (alone_with turns)) weakened)
+      (tells : TellsWeakly (program_of code) turns weakened before.told mid.told)
+      (drawn : weakened.stop ≢ Stop.NoMemory → IsDrawnAs (program_of code) seed turns weakened) (has_left : HasLeft code (limits_of (alone_with turns)) weakened)
       (ahead_is : ahead ≡ lines weakened.output.items) (unwritten : mid.written ≡ before.written) (unfailed : mid.write_faults ≡ before.write_faults)
       (speaks : Speaks (status_of (end_in (Left.Weak weakened))) (ahead ++ (verdict_of (end_in (Left.Weak weakened)) ++ [])) status mid.written mid.write_faults
       after.written after.write_faults) where
@@ -285,7 +293,8 @@ module _ (call : Call) (status : Status) (text : Text) (code : FlatCode) (front 
       };
       cause = weak-cause weakened.stop refl;
       spoken = spoken-is None (status_of weak_end) status (ahead ++ (verdict_of weak_end ++ [])) mid.written mid.write_faults after.written after.write_faults speaks;
-      own = record { weak = weakened; left_is = refl; journal = tells.straight; paid = tells.paid };
+      own = record { weak = weakened; left_is = refl; journal = tells.straight; drawn = drawn; paid = tells.paid };
+      ran = tt;
       notes = tells.notes;
       once = tells.apart;
       shown = record { limited = has_left.limits_are; most = λ able. tells.within (unless-memory able) };
@@ -299,11 +308,11 @@ module _ (call : Call) (status : Status) (text : Text) (code : FlatCode) (front 
       SpeaksAfter left ahead (status_of (end_in left)) (more command left) status mid.written mid.write_faults after.written after.write_faults
 
   weak-told : (seed turns : ℕ) (left : Left) (ahead : List ℕ) → IsJobOf call text code (Command.Weak seed turns) front
-      → (made : IsWeakRunMade turns code before left ahead mid) → Spoken (Command.Weak seed turns) left ahead
+      → (made : IsWeakRunMade seed turns code before left ahead mid) → Spoken (Command.Weak seed turns) left ahead
       → Headline call (report_with status text code (Command.Weak seed turns) left) (run_with code left) (end_in left) before after
   weak-told seed turns left ahead job made speaks =
       subst (λ (l : Left). Headline call (report_with status text code (Command.Weak seed turns) l) (run_with code l) (end_in l) before after) (sym made.left_is)
-      (weak-headline seed turns made.weak ahead job made.tells made.has_left made.ahead_is made.unwritten made.unfailed
+      (weak-headline seed turns made.weak ahead job made.tells made.drawn made.has_left made.ahead_is made.unwritten made.unfailed
       (subst (λ (l : Left). Spoken (Command.Weak seed turns) l ahead) made.left_is speaks))
 
   -- a command whose run an engine makes, with something next to the engine's end
@@ -318,19 +327,19 @@ module _ (call : Call) (status : Status) (text : Text) (code : FlatCode) (front 
   pub headline : (command : Command) (left : Left) (ahead : List ℕ) → IsJobOf call text code command front → IsRunMade command front code before left ahead mid
       → Spoken command left ahead → Headline call (report_with status text code command left) (run_with code left) (end_in left) before after
   headline (Command.Run options) left ahead job made speaks =
-      engine-told (Command.Run options) left _ ahead job made made.own_is (record { devices = λ d. d; cause = λ o r c. c; once = λ n. n; shown = λ l s. s }) speaks
+      engine-told (Command.Run options) left _ ahead job made made.own_is (record { devices = λ d. d; cause = λ o r c. c; once = λ n. n; shown = λ l s. s; ran = λ l r. r }) speaks
   headline (Command.Bench seed size options) left ahead job made speaks =
       engine-told (Command.Bench seed size options) left _ ahead job made made.own_is
-      (record { devices = λ d. d; cause = λ o r c. c; once = λ n. n; shown = λ l s. s }) speaks
+      (record { devices = λ d. d; cause = λ o r c. c; once = λ n. n; shown = λ l s. s; ran = λ l r. r }) speaks
   headline (Command.Sim seed options) left ahead job made speaks =
       engine-told (Command.Sim seed options) left _ ahead job made made.own_is.extra_is
-      (record { devices = λ d. d; cause = λ o r c. c; once = λ n. n; shown = λ l s. s }) speaks
+      (record { devices = λ d. d; cause = λ o r c. c; once = λ n. n; shown = λ l s. s; ran = λ l r. r }) speaks
   headline (Command.Replay options) left ahead job made speaks =
       engine-told (Command.Replay options) left _ ahead job made made.own_is.picked.extra_is
-      (record { devices = λ d. d; cause = λ o r c. c; once = λ n. n; shown = λ l s. s }) speaks
+      (record { devices = λ d. d; cause = λ o r c. c; once = λ n. n; shown = λ l s. s; ran = λ l r. r }) speaks
   headline Command.Check left ahead job made speaks = absurd made.begun
   headline (Command.Resume options) left ahead job made speaks =
-      engine-told (Command.Resume options) left _ ahead job made made.own_is (record { devices = λ d. d; cause = λ o r c. c; once = λ n. n; shown = λ l s. s })
+      engine-told (Command.Resume options) left _ ahead job made made.own_is (record { devices = λ d. d; cause = λ o r c. c; once = λ n. n; shown = λ l s. s; ran = λ l r. r })
       speaks
   headline (Command.Weak seed turns) left ahead job made speaks = weak-told seed turns left ahead job made speaks
 

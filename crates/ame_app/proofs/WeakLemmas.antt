@@ -53,16 +53,17 @@ use Rattle.ame_weak.specs.Straight.{Place, outset, arrival_where, freed, entries
 use Rattle.ame_weak.specs.Tries.{AreTried, AreTriesInOrder, note_for, noted_tries, tries_behind, straight_with}
 use Rattle.ame_weak.specs.declared.tries.Try.{Try}
 use Rattle.ame_weak.proofs.WayLemmas.{activate-found}
-use Rattle.ame_runner.specs.Run.{AreFailedTries, CutAt}
+use Rattle.ame_runner.specs.Run.{turns_of_tries, AreFailedTries, CutAt}
 use Rattle.ame_runner.specs.Stop.{HasWeakCause, IsBlockedBy, StandsAtCall, FailsBy}
-use Rattle.ame_runner.specs.Ended.{EndTries, IsWeakRunOf, notes_of_stop, journal_of_run, IsToldBy, TellsStop}
+use Rattle.ame_runner.specs.Ended.{EndTries, IsWeakRunOf, notes_of_stop, journal_of_run, IsCounted, IsToldBy, TellsStop}
+use Rattle.ame_runner.specs.Drawn.{IsDrawn}
 use Rattle.ame_runner.specs.Tall.{tall_note, IsTallIn}
 use Rattle.ame_runner.specs.declared.stop.WeakStop.{WeakStop}
 use Rattle.ame_runner.specs.Apart.{AreNotedApart}
 use Rattle.ame_runner.proofs.ApartLemmas.{order-behind, notes-apart}
 use Rattle.ame_app.specs.declared.left.WeakEnd.{WeakEnd}
-use Rattle.ame_app.specs.Jobs.{stop_told, LeavesFit, certificates_told, HasWeakStop, TellsWeakly}
-use Rattle.ame_app.specs.Verbs.Weak.{IsNoteAtEnd, IsWeakJournal, StandsAtCallOf}
+use Rattle.ame_app.specs.Jobs.{LeavesFit, certificates_told, HasWeakStop, TellsWeakly}
+use Rattle.ame_app.specs.Verbs.Weak.{IsNoteAtEnd, IsWeakJournal, stop_told, IsEndOf, IsDrawnAs, StandsAtCallOf}
 use Rattle.ame_app.proofs.CountLemmas.{here, more, empty, first-or-later}
 
 -- Entries of the labels, with the notes of the tries
@@ -405,7 +406,7 @@ HoldsAtEnd stop s = Unit {0}
 
 holds-told : (program : Tree) (limit : ℕ) (labels : List Label) (tries : List Try) (turns : ℕ) (before after : List Told) (stop : WeakStop) (w : Weak) → IsWeakRun program labels w
     → TellsStop program limit labels tries turns before after stop → HoldsAtEnd stop w.state
-holds-told program limit labels tries turns before after (WeakStop.Tall entry) w leads tells = tells.cause w leads
+holds-told program limit labels tries turns before after (WeakStop.Tall entry) w leads tells = (tells.cause w leads).0
 holds-told program limit labels tries turns before after WeakStop.Finished w leads tells = tt
 holds-told program limit labels tries turns before after (WeakStop.Blocked certificates) w leads tells = tt
 holds-told program limit labels tries turns before after WeakStop.Spent w leads tells = tt
@@ -519,18 +520,19 @@ stop-apart (WeakStop.DeviceFault device) es note apart = subst AreNotedApart (sy
 stop-apart WeakStop.NoMemory es note apart = subst AreNotedApart (sym (append-nil es)) apart
 
 -- the note that the stop leaves, if it leaves one
-record IsLastOf (stop : WeakStop) (s : State) : Type 0 where
+record IsLastOf (stop : WeakStop) (w : Weak) : Type 0 where
   last : Option Entry
   notes : notes_of_stop stop ≡ option_to_list last
-  grows : IsNoteAtEnd last s
+  grows : IsNoteAtEnd last w
 
-last-of : (stop : WeakStop) (s : State) → HoldsAtEnd stop s → IsLastOf stop s
-last-of (WeakStop.Tall entry) s tall = record { last = Some entry; notes = refl; grows = tall }
-last-of WeakStop.Finished s tall = record { last = None; notes = refl; grows = tt }
-last-of (WeakStop.Blocked certificates) s tall = record { last = None; notes = refl; grows = tt }
-last-of WeakStop.Spent s tall = record { last = None; notes = refl; grows = tt }
-last-of (WeakStop.DeviceFault device) s tall = record { last = None; notes = refl; grows = tt }
-last-of WeakStop.NoMemory s tall = record { last = None; notes = refl; grows = tt }
+last-of : (program : Tree) (limit : ℕ) (labels : List Label) (tries : List Try) (turns : ℕ) (before after : List Told) (stop : WeakStop) (w : Weak) → IsWeakRun program labels w
+    → TellsStop program limit labels tries turns before after stop → IsLastOf stop w
+last-of program limit labels tries turns before after (WeakStop.Tall entry) w leads tells = record { last = Some entry; notes = refl; grows = tells.cause w leads }
+last-of program limit labels tries turns before after WeakStop.Finished w leads tells = record { last = None; notes = refl; grows = tt }
+last-of program limit labels tries turns before after (WeakStop.Blocked certificates) w leads tells = record { last = None; notes = refl; grows = tt }
+last-of program limit labels tries turns before after WeakStop.Spent w leads tells = record { last = None; notes = refl; grows = tt }
+last-of program limit labels tries turns before after (WeakStop.DeviceFault device) w leads tells = record { last = None; notes = refl; grows = tt }
+last-of program limit labels tries turns before after WeakStop.NoMemory w leads tells = record { last = None; notes = refl; grows = tt }
 
 -- what the theorems of straightening say of a program
 abbrev Straightens : Tree → Type 0
@@ -581,7 +583,7 @@ module _ (signature : Signature) (program : Tree) (straightens : Straightens pro
       let holds = holds-told program limit labels tries turns before after stop w leads tells in
       let note = notes-hold stop w.state holds in
       let holds_there : HoldsAtEnd stop s.0.state = subst (λ (z : Weak). HoldsAtEnd stop z.state) s.2 holds in
-      let ends = last-of stop w.state holds in
+      let ends = last-of program limit labels tries turns before after stop w leads tells in
       let noted : NotesStop (Some (stop_told stop)) weakened.journal.entries =
       subst (NotesStop (Some (stop_told stop))) (sym entries_are) (notes-of labels tries stop made.order made.last note) in
       let able : weakened.stop ≢ Stop.NoMemory → IsToldBy program limit labels tries turns before after stop =
@@ -592,7 +594,9 @@ module _ (signature : Signature) (program : Tree) (straightens : Straightens pro
               weak = w;
               leads = leads;
               idle = idle;
+              within = made.within;
               tried = made.tried;
+              tried_within = made.tried_within;
               last = ends.last;
               entries_are = entries_are ∙ ap (λ (es : List Entry). straight_entries ++ es) ends.notes;
               grows = ends.grows;
@@ -624,6 +628,39 @@ module _ (signature : Signature) (program : Tree) (straightens : Straightens pro
         failed = λ ne. subst (λ (k : Stop). HaveFailed (Some k) before after) (sym stop_is) (fails-too stop before after (able ne).fails);
       }
 
+-- The numbers of its seed
+
+counted-of : (program : Tree) (limit : ℕ) (labels : List Label) (tries : List Try) (turns : ℕ) (before after : List Told) (stop : WeakStop) → stop ≢ WeakStop.NoMemory
+    → TellsStop program limit labels tries turns before after stop → IsCounted stop (length labels + turns_of_tries tries) turns
+counted-of program limit labels tries turns before after WeakStop.Finished able tells = tells.counted
+counted-of program limit labels tries turns before after (WeakStop.Blocked certificates) able tells = tells.counted
+counted-of program limit labels tries turns before after WeakStop.Spent able tells = tells.counted
+counted-of program limit labels tries turns before after (WeakStop.DeviceFault device) able tells = tells.counted
+counted-of program limit labels tries turns before after (WeakStop.Tall entry) able tells = tells.counted
+counted-of program limit labels tries turns before after WeakStop.NoMemory able tells = absurd (able refl)
+
+-- labels, tries and turns are kept as they were drawn
+pub drawn-as : (program : Tree) (seed limit : ℕ) (labels : List Label) (tries : List Try) (turns : ℕ) (before after : List Told) (stop : WeakStop) (weakened : WeakEnd)
+    → (weakened.stop ≡ Stop.NoMemory) ⊎ IsEndOf labels tries turns stop weakened → TellsStop program limit labels tries turns before after stop
+    → (stop ≢ WeakStop.NoMemory → IsDrawn program limit seed labels tries turns stop) → weakened.stop ≢ Stop.NoMemory → IsDrawnAs program seed limit weakened
+drawn-as program seed limit labels tries turns before after stop weakened (inl lacking) tells drawn able = absurd (able lacking)
+drawn-as program seed limit labels tries turns before after stop weakened (inr same) tells drawn able = record {
+  stop = stop;
+  stop_is = same.stop_is;
+  drawn =
+      subst (λ (ls : List Label). IsDrawn program limit seed ls weakened.tries.items weakened.turns stop) (sym same.labels_are)
+      (subst (λ (ts : List Try). IsDrawn program limit seed labels ts weakened.turns stop) (sym same.tries_are)
+      (subst (λ (n : ℕ). IsDrawn program limit seed labels tries n stop) (sym same.turns_are) (drawn ended)));
+  counted =
+      subst (λ (ls : List Label). IsCounted stop (length ls + turns_of_tries weakened.tries.items) weakened.turns) (sym same.labels_are)
+      (subst (λ (ts : List Try). IsCounted stop (length labels + turns_of_tries ts) weakened.turns) (sym same.tries_are)
+      (subst (IsCounted stop (length labels + turns_of_tries tries)) (sym same.turns_are)
+      (counted-of program limit labels tries turns before after stop ended tells)));
+}
+  where
+    ended : stop ≢ WeakStop.NoMemory
+    ended = λ lacking. able (same.stop_is ∙ ap stop_told lacking)
+
 -- a weak run that ran out of memory has only its turns
 pub untold-tells : (program : Tree) (limit : ℕ) (weakened : WeakEnd) → weakened.labels.items ≡ [] → weakened.tries.items ≡ [] → weakened.journal.entries ≡ []
     → weakened.stop ≡ Stop.NoMemory
@@ -631,7 +668,7 @@ pub untold-tells : (program : Tree) (limit : ℕ) (weakened : WeakEnd) → weake
 untold-tells program limit weakened no_labels no_tries none stop_is before after count = record {
   straight = subst (λ (ls : List Label). IsWeakJournal program ls weakened.tries.items weakened.journal.entries) (sym no_labels)
       (subst (λ (ts : List Try). IsWeakJournal program [] ts weakened.journal.entries) (sym no_tries)
-      (record { weak = weak_start program; leads = refl; idle = refl; tried = tt; last = None; entries_are = none; grows = tt }));
+      (record { weak = weak_start program; leads = refl; idle = refl; within = tt; tried = tt; tried_within = tt; last = None; entries_are = none; grows = tt }));
   paid = λ ne. absurd (ne stop_is);
   within = λ ne. absurd (ne stop_is);
   final = begun_at program;

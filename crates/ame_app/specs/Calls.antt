@@ -1,6 +1,6 @@
 -- The input of a call, and the text that it is to run.
-use Rattle.std.specs.Prelude.{◌≡◌, ℕ, ◌≤◌, Bool, true, false, List, [], Option, length}
-use Rattle.ame_io.specs.Reads.{whole_limit, IsReadWhole}
+use Rattle.std.specs.Prelude.{◌≡◌, ℕ, ◌<◌, ◌≤◌, Bool, true, false, List, [], Option, Some, length}
+use Rattle.ame_io.specs.Reads.{whole_limit, IsReadWhole, GivesMoreThan}
 use Rattle.ame_lex.specs.Bytes.{Text}
 use Rattle.ame_cli.specs.declared.command.Command.{Command}
 use Rattle.ame_cli.specs.Items.{Word}
@@ -48,3 +48,16 @@ pub record Asks (call : Call) (command : Command) (front : Front) (text : Text) 
   pub spelled : SpellsCommand call.words command
   pub text_is : IsTextOf command call.source call.source_after front text
   pub most : length text ≤ whole_limit
+
+-- A source had just these bytes left, and was read without a fault: to its end, or beyond the most bytes that one may have.
+pub record HadBytes (source after : Given) (bytes : List ℕ) : Type 0 where
+  pub had : source.left ≡ Some bytes
+  pub whole : length bytes ≤ whole_limit → IsReadWhole source.left after.left bytes
+  pub more : whole_limit < length bytes → GivesMoreThan whole_limit source.left after.left
+  pub faults : after.faults ≡ source.faults
+
+-- the words of a call spell this command, its source had these bytes and was read, and this is the number of its devices
+pub record IsCallOf (call : Call) (command : Command) (bytes : List ℕ) (devices : ℕ) : Type 0 where
+  pub spelled : SpellsCommand call.words command
+  pub read : HadBytes call.source call.source_after bytes
+  pub devices_are : call.devices ≡ devices

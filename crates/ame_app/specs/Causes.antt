@@ -106,6 +106,12 @@ abbrev pub IsNamed : Call → Option Command → Status → Type 0
 IsNamed call (Some command) told = SpellsCommand call.words command
 IsNamed call None told = SpellsNothing call.words ⊎ (told ≡ Status.NoMemory)
 
+-- A call is refused before a run, with this text, if one was taken, this command and this status, which has its cause.
+pub record IsRefusedWith (call : Call) (text : Text) (command : Option Command) (told : Status) : Type 0 where
+  pub cause : RefusalCause call text [] Own.Nothing told
+  pub named : IsNamed call command told
+  pub most : length text ≤ whole_limit
+
 -- Calls with a run
 
 -- the status of a stop, given the certificates of members that are blocked

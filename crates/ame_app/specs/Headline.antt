@@ -1,5 +1,5 @@
 -- The promises of a call.
-use Rattle.std.specs.Prelude.{◌≡◌, ◌≢◌, ◌≤◌, ◌++◌, ℕ, List, map, length, All, Some, None}
+use Rattle.std.specs.Prelude.{◌≡◌, ◌≢◌, ◌≤◌, ◌++◌, ℕ, List, map, length, All, Some, None, ⊤}
 use Rattle.std.specs.Io.KnownBytes.{Appends}
 use Rattle.ame_io.specs.Counts.{HasRisen}
 use Rattle.ame_io.specs.Lines.{lines}
@@ -34,6 +34,7 @@ use Rattle.ame_runner.specs.Apart.{AreNotedApart}
 use Rattle.ame_shell.specs.Ends.{Ends}
 use Rattle.ame_shell.specs.Heard.{HaveHeardSince, HaveFailed}
 use Rattle.ame_shell.specs.Over.{AreOfSeats, NoneWereInTheWay}
+use Rattle.ame_shell.specs.Ran.{IsRanBy}
 use Rattle.ame_app.specs.declared.parts.Front.{Front}
 use Rattle.ame_app.specs.declared.parts.Own.{Own}
 use Rattle.ame_app.specs.declared.status.Status.{Status}
@@ -78,6 +79,11 @@ DevicesTellOf command code end before after = DevicesTell code end before after
 abbrev pub IsNotedOnceBy : Command → List Entry → Type 0
 IsNotedOnceBy (Command.Weak seed turns) journal = AreNotedApart journal
 IsNotedOnceBy command journal = IsNotedOnce journal
+
+-- The run of a command was made by events of an engine, from the entries with which it began to this end. A weak run has no such events.
+abbrev pub IsRanOf : Command → FlatCode → Limits → End Val → Type 0
+IsRanOf (Command.Weak seed turns) code limits end = ⊤
+IsRanOf command code limits end = IsRanBy (program_of code) (signature_of code.accepted) limits end.base (value_meant code) end
 
 -- the verdict line of a run
 abbrev pub verdict_of : End Val → List ℕ
@@ -132,7 +138,9 @@ pub record Headline (call : Call) (report : Reported) (run : RunView) (end : End
   pub cause : CommandCause command (status_of end) options end final before after
   pub spoken : report.status ≢ Status.WriteFault → report.status ≡ status_of end
   -- The run has what the command promises of its own.
-  pub own : Promises command front (program_of compiled) options run.left
+  pub own : Promises command front compiled (limits_of options) before run.left
+  -- Unless the run was weak, events of an engine led to its end, each when it might come.
+  pub ran : IsRanOf command compiled (limits_of options) end
   -- The note of a fragment that was cut off, or that came to a value nested too deeply, is the last entry, and comes only with that stop. That a
   -- fragment waits is noted once until the next commit.
   pub notes : NotesStop end.stop end.entries

@@ -17,8 +17,7 @@ use Rattle.ame_code.specs.FlatCode.{FlatCode}
 use Rattle.ame_code.specs.Code.{program_of}
 use Rattle.ame_value.specs.View.{flat_value}
 use Rattle.ame_value.specs.declared.val.Val.{Val}
-use Rattle.ame_eval.specs.Values.{value_meant, IsMadeValue}
-use Rattle.ame_eval.specs.Fragments.{IsFragmentOf, stage_of}
+use Rattle.ame_eval.specs.Values.{value_meant}
 use Rattle.ame_eval.specs.declared.fragment.Fragment.{Fragment}
 use Rattle.ame_cli.specs.declared.command.CliFail.{CliFail}
 use Rattle.ame_cli.specs.declared.command.Options.{Options}
@@ -28,7 +27,6 @@ use Rattle.ame_journal.specs.JournalView.{IsFit}
 use Rattle.ame_journal.specs.Replayed.{Replayed}
 use Rattle.ame_journal.specs.Replay.{replay}
 use Rattle.ame_journal.specs.Totals.{total_steps}
-use Rattle.ame_machine.specs.Meaning.{Meaning}
 use Rattle.ame_engine.specs.Core.{Core}
 use Rattle.ame_device.specs.declared.told.Told.{Told}
 use Rattle.ame_protocol.specs.declared.types.Limits.{Limits}
@@ -50,9 +48,10 @@ use Rattle.ame_app.specs.declared.parts.Own.{Own}
 use Rattle.ame_app.specs.declared.status.Status.{Status}
 use Rattle.ame_app.specs.declared.verbs.Outlook.{Outlook}
 use Rattle.ame_app.specs.Verbs.{Declines, Settles, options_of, BeginsFrom, Promises}
-use Rattle.ame_app.specs.Verbs.Weak.{alone_with, IsWeakJournal, StandsAtCallOf}
+use Rattle.ame_app.specs.Verbs.Weak.{alone_with, IsWeakJournal, IsDrawnAs, StandsAtCallOf}
 use Rattle.ame_app.specs.Calls.{Call, Asks}
 use Rattle.ame_app.specs.Texts.{IsNoProgram, IsIllTyped, IsProgramOf}
+use Rattle.ame_app.specs.Fragments.{fragments}
 use Rattle.ame_app.specs.Left.{end_in}
 use Rattle.ame_app.specs.Reported.{Reported}
 use Rattle.ame_app.specs.Headline.{limits_of, IsStore, IsTypedState, IsToldAlone}
@@ -101,17 +100,6 @@ IsTextStatus text devices _ = ⊥
 
 -- Outlook of a job
 
--- what code, values and machines of programs mean
-abbrev pub fragments : Meaning FlatCode Val Fragment
-fragments = record {
-  program = λ code. program_of code;
-  signature = λ code. signature_of code.accepted;
-  is_value = λ code v. IsMadeValue code v;
-  value_of = λ code v. value_meant code v;
-  is_machine = λ code m. IsFragmentOf code m;
-  stage = λ code m. stage_of code m;
-}
-
 -- entries lead from a program to a state
 abbrev pub IsReplayable : Tree → List Entry → Type 0
 IsReplayable program entries = (led : Replayed) × (replay program entries ≡ Some led)
@@ -151,8 +139,8 @@ abbrev pub IsOverWith : Options → FlatCode → Ends → End Val → Ends → T
 IsOverWith options code before end after = IsOver (program_of code) (signature_of code.accepted) (limits_of options) (value_meant code) before end after
 
 -- a run that went on from an engine is over
-abbrev pub IsOverFrom : Core FlatCode Val Fragment → Ends → End Val → Ends → Type 0
-IsOverFrom engine before end after =
+abbrev pub IsOverResumed : Core FlatCode Val Fragment → Ends → End Val → Ends → Type 0
+IsOverResumed engine before end after =
     IsOverSince engine.base (program_of engine.code) (signature_of engine.code.accepted) engine.limits (value_meant engine.code) before end after
 
 -- a run that a command makes by an engine is over, and has kept what the command promises
@@ -162,7 +150,7 @@ pub record IsEngineRunMade (command : Command) (front : Front) (code : FlatCode)
   pub base : List Entry
   pub begun : BeginsFrom command front (program_of code) base
   pub over : IsOverSince base (program_of code) (signature_of code.accepted) (limits_of options) (value_meant code) before (end_in left) after
-  pub own_is : Promises command front (program_of code) options left
+  pub own_is : Promises command front code (limits_of options) before left
 
 -- the cause of the stop of a weak run, with its limit and its turns, in the state that is left
 abbrev pub HasWeakStop : Stop → ℕ → WeakEnd → State → Type 0
@@ -205,10 +193,11 @@ pub record HasLeft (code : FlatCode) (limits : Limits) (weak : WeakEnd) : Type 0
   pub leads : LeadsToLeft code weak.journal.entries weak.store weak.output.items
 
 -- a weak run is over, and its lines aren't written yet
-pub record IsWeakRunMade (turns : ℕ) (code : FlatCode) (before : Ends) (left : Left) (ahead : List ℕ) (after : Ends) : Type 0 where
+pub record IsWeakRunMade (seed turns : ℕ) (code : FlatCode) (before : Ends) (left : Left) (ahead : List ℕ) (after : Ends) : Type 0 where
   pub weak : WeakEnd
   pub left_is : left ≡ Left.Weak weak
   pub tells : TellsWeakly (program_of code) turns weak before.told after.told
+  pub drawn : weak.stop ≢ Stop.NoMemory → IsDrawnAs (program_of code) seed turns weak
   pub has_left : HasLeft code (limits_of (alone_with turns)) weak
   pub ahead_is : ahead ≡ lines weak.output.items
   pub unwritten : after.written ≡ before.written
@@ -216,7 +205,7 @@ pub record IsWeakRunMade (turns : ℕ) (code : FlatCode) (before : Ends) (left :
 
 -- the run of a command is over; if it was weak, these bytes are to be written before the verdict line
 abbrev pub IsRunMade : Command → Front → FlatCode → Ends → Left → List ℕ → Ends → Type 0
-IsRunMade (Command.Weak seed turns) front code before left ahead after = IsWeakRunMade turns code before left ahead after
+IsRunMade (Command.Weak seed turns) front code before left ahead after = IsWeakRunMade seed turns code before left ahead after
 IsRunMade command front code before left ahead after = IsEngineRunMade command front code before left after
 
 -- no run was begun of a job: its command settles the program with this status, or memory ran out
@@ -228,15 +217,7 @@ pub record IsLeft (command : Command) (front : Front) (code : FlatCode) (report 
   pub named : report.command ≡ Some command
   pub alone : IsToldAlone ahead own told report before after
 
--- Why a weak run stops, as a stop of an engine
-
-abbrev pub stop_told : WeakStop → Stop
-stop_told WeakStop.Finished = Stop.Finished
-stop_told (WeakStop.Blocked certificates) = Stop.Blocked
-stop_told WeakStop.Spent = Stop.Spent
-stop_told (WeakStop.DeviceFault device) = Stop.DeviceFault device
-stop_told (WeakStop.Tall entry) = Stop.Tall entry.number
-stop_told WeakStop.NoMemory = Stop.NoMemory
+-- Stops of weak runs
 
 -- the note that a stop leaves is one that a journal may have
 abbrev pub LeavesFit : WeakStop → Type 0

@@ -1,5 +1,7 @@
 pub mod Verdict
+pub mod Alone
 pub mod Left
+pub mod Fragments
 pub mod Verbs
 pub mod Calls
 pub mod Texts

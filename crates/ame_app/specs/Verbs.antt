@@ -10,6 +10,10 @@ use Rattle.std.specs.Prelude.{ℕ, Bool, true, false, List, [], Option, Some, No
 use Rattle.ame_lex.specs.Bytes.{Text}
 use Rattle.ame_term.specs.Tree.{Tree}
 use Rattle.ame_journal.specs.declared.entry.Entry.{Entry}
+use Rattle.ame_code.specs.FlatCode.{FlatCode}
+use Rattle.ame_code.specs.Code.{program_of}
+use Rattle.ame_protocol.specs.declared.types.Limits.{Limits}
+use Rattle.ame_shell.specs.Ends.{Ends}
 use Rattle.ame_cli.specs.declared.command.Options.{Options}
 use Rattle.ame_cli.specs.declared.command.Command.{Command}
 use Rattle.ame_app.specs.declared.left.Left.{Left}
@@ -93,15 +97,15 @@ BeginsFrom (Command.Weak seed turns) front program base = BeginsWithNothing base
 
 -- Results
 
--- the run that a command made of a program left what the command promises
-abbrev pub Promises : Command → Front → Tree → Options → Left → Type 0
-Promises (Command.Run options) front program with left = HasNothing left
-Promises (Command.Bench seed size options) front program with left = HasNothing left
-Promises (Command.Sim seed options) front program with left = IsPicked (drawn seed) with.workers left
-Promises (Command.Replay options) front program with left = IsPickedAsListed front with.workers left
-Promises Command.Check front program with left = ⊥
-Promises (Command.Resume options) front program with left = TellsResumed left
-Promises (Command.Weak seed turns) front program with left = IsWeakened program left
+-- the run that a command made of code, with these limits and from these ends, left what the command promises
+abbrev pub Promises : Command → Front → FlatCode → Limits → Ends → Left → Type 0
+Promises (Command.Run options) front code limits before left = HasNothing left
+Promises (Command.Bench seed size options) front code limits before left = HasNothing left
+Promises (Command.Sim seed options) front code limits before left = IsPicked (drawn seed) code limits before left
+Promises (Command.Replay options) front code limits before left = IsPickedAsListed front code limits before left
+Promises Command.Check front code limits before left = ⊥
+Promises (Command.Resume options) front code limits before left = TellsResumed left
+Promises (Command.Weak seed turns) front code limits before left = IsWeakened (program_of code) seed turns left
 
 -- what is written after the verdict line of a run
 abbrev pub written_behind : Command → Left → Status → List ℕ

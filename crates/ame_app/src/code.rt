@@ -20,7 +20,7 @@ use std::alloc::Global;
 use std::sync::Arc;
 
 /// Reads, types and compiles a text. The error is the status of a text that is no typed program, or `NoMemory`.
-pub(crate) fn code_of(alloc: Global, text: &[u8], devices: u32) -> Result<Arc<Code>, Status>
+pub fn code_of(alloc: Global, text: &[u8], devices: u32) -> Result<Arc<Code>, Status>
     requires small { length text.now ≤ READ_LIMIT }
     requires few { devices ≤ max_devices }
     ensures program { IfOk result (λ code. IsProgramOf text.now devices (arc_value code).accepted) }

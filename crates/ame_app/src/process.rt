@@ -89,7 +89,7 @@ where
 }
 
 /// Makes the two devices of a process.
-fn standard_devices(alloc: Global) -> Result<Vec<StandardDevice>, AllocError>
+pub fn standard_devices(alloc: Global) -> Result<Vec<StandardDevice>, AllocError>
     ensures { IfOk result (λ devices. all_told heard_by faults_of devices.items ≡ told (Some []) 0 ∷ told (Some []) 0 ∷ []) }
 {
     let mut devices = Vec::new(alloc);

@@ -13,12 +13,29 @@ use ame_cli::Command;
 use ame_device::Device;
 use ame_io::Sink;
 use ame_shell::Io;
+use std::alloc::Global;
 
 /// A call in which no run was begun: the command, if the words spell one, the status, and the text that was taken.
+#[derive(Drop)]
 pub(crate) struct Refusal {
     pub(crate) command: Option<Command>,
     pub(crate) told: Status,
     pub(crate) text: Vec<u8>,
+}
+
+impl Refusal {
+    /// Returns a refusal before any text was taken.
+    pub(crate) fn without_text(alloc: Global, command: Option<Command>, told: Status) -> Refusal
+        ensures command { result.command ≡ command }
+        ensures told { result.told ≡ told }
+        ensures text { result.text.items ≡ [] }
+    {
+        Refusal {
+            command,
+            told,
+            text: Vec::new(alloc),
+        }
+    }
 }
 
 /// Reports why no run was begun.

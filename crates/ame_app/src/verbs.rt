@@ -30,6 +30,7 @@ use ame_shell::Io;
 use ame_sim::Drawn;
 use ame_term::NoMemory;
 use ame_worker::Gate;
+pub use check::{Certified, judge_journal, read_certificate};
 use std::alloc::Global;
 use std::sync::{Arc, Wait};
 use std::thread::Threads;
@@ -51,10 +52,10 @@ pub(crate) struct Taken {
 
 /// A status that is reported without a run, with the bytes to write before the verdict line, and what the command has of its own.
 #[derive(Drop)]
-pub(crate) struct Settled {
-    pub(crate) told: Status,
-    pub(crate) ahead: Vec<u8>,
-    pub(crate) own: Own,
+pub struct Settled {
+    pub told: Status,
+    pub ahead: Vec<u8>,
+    pub own: Own,
 }
 
 /// The way in which a job goes on: by a status, or by a run.
@@ -107,7 +108,7 @@ pub(crate) fn take(alloc: Global, command: &Command, bytes: Vec<u8>) -> Result<T
 }
 
 /// Makes a status with no bytes before the verdict line.
-fn told_alone(alloc: Global, told: Status, own: Own) -> Settled
+pub(crate) fn told_alone(alloc: Global, told: Status, own: Own) -> Settled
     ensures told { result.told ≡ told }
     ensures ahead { result.ahead.items ≡ [] }
     ensures own { result.own ≡ own }
@@ -163,13 +164,37 @@ where
         Command::Run(options) | Command::Bench(_, _, options) => {
             run::run(rt, alloc, &job.code, options, io, gate)
         }
+        Command::Sim(_, _)
+        | Command::Replay(_)
+        | Command::Check
+        | Command::Resume(_)
+        | Command::Weak(_, _) => make_alone(alloc, job, io),
+    }
+}
+
+/// Makes the run that a command asks for on this thread. If nothing was begun, because memory ran out or the command makes no such run, sink
+/// and devices come back as they were.
+pub(crate) fn make_alone<K, D>(
+    alloc: Global,
+    job: &Job,
+    io: Io<K, D>,
+) -> Result<Made<K, D>, Io<K, D>>
+where
+    K: Sink + Drop,
+    D: Device,
+    requires ranges { IsInRange job.now.command }
+    requires devices { (arc_value job.now.code).accepted.devices ≡ length io.ends.told }
+    ensures made { IfOk result (λ made. IsRunMade job.now.command job.now.front (arc_value job.now.code) io.ends made.left made.ahead.items made.io.ends) }
+    ensures back { IfErr result (λ back. back ≡ io) }
+{
+    match job.command {
         Command::Sim(seed, options) => {
             let mut chooser = Drawn::new(seed);
             sim::run(alloc, &job.code, options, io, &mut chooser)
         }
         Command::Replay(options) => { replay::run(alloc, &job.code, options, &job.front, io) }
         Command::Weak(seed, turns) => Ok(weak::run(alloc, &job.code, seed, turns, io)),
-        Command::Check | Command::Resume(_) => Err(io),
+        Command::Run(_) | Command::Bench(_, _, _) | Command::Check | Command::Resume(_) => Err(io),
     }
 }
 

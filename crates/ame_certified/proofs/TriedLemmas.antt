@@ -1,5 +1,5 @@
 -- The notes of tries within the bounds meet no form that would become a value that is too high.
-use Rattle.std.proofs.Common.{◌≡◌, ℕ, suc, ◌+◌, ◌<◌, ◌==◌, ◌⊎◌, inl, inr, ℤ, Bool, true, false, List, [], ◌∷◌, ◌++◌, append-nil, append_assoc, length, map, Option, Some, None, is_some, option_map, option_and_then, if◌then◌else◌, refl, sym, ap, ◌∙◌, subst, arith, eqb-true}
+use Rattle.std.proofs.Common.{◌≡◌, ℕ, suc, ◌+◌, ◌<◌, ◌==◌, inl, inr, ℤ, Bool, true, false, List, [], ◌∷◌, ◌++◌, append-nil, append_assoc, length, map, Option, Some, None, is_some, option_map, option_and_then, if◌then◌else◌, refl, sym, ap, ◌∙◌, subst, arith, eqb-true}
 use Rattle.std.specs.List.{AllByRecursion}
 use Rattle.std.proofs.lemmas.Option.{option_and_then_some}
 use Rattle.ame_term.specs.Tree.{Tree}
@@ -24,7 +24,8 @@ use Rattle.ame_weak.specs.declared.tries.Try.{Try}
 use Rattle.ame_weak.proofs.HeldSteps.{if-gave, map-gave}
 use Rattle.ame_weak.proofs.WayLemmas.{IsUnderWay, way-begun, way-step}
 use Rattle.ame_weak.proofs.StraightLemmas.{past_all, ends-strong}
-use Rattle.ame_certified.specs.WeakTries.{AreMadeWithin, IsTriedWithin, IsTallNote}
+use Rattle.ame_runner.specs.Within.{AreMadeWithin, IsTriedWithin, IsReachedWithin}
+use Rattle.ame_certified.specs.WeakTries.{IsTallNote}
 use Rattle.ame_certified.proofs.JudgedLemmas.{one-low}
 use Rattle.ame_certified.proofs.WayLemmas.{WayIsLow, way-none}
 use Rattle.ame_certified.proofs.WeakLemmas.{IsLowSo, stepped-way, label-low}
@@ -62,7 +63,7 @@ tried-there signature r p w program journal h rests i n fresh tried =
     let legal : after r.state (Label.Activate i) ≡ Some m.0 = ap (λ (z : Weak). after z.state (Label.Activate i)) (sym rests) ∙ m.1 in
     let begun : holding_none m.0 ≡ x = ap (λ (z : Weak). moved z m.0) (sym rests) ∙ m.2 in
     let u = subst (IsUnderWay signature r.state i 0 []) begun (way-begun signature h.follows.cells r.state i m.0 h.follows.typed h.follows.calm.idle h.follows.calm.orderly legal) in
-    let all = steps-low signature r.state i tried.kinds 0 [] x tried.behind u (way-none r.state i []) rest (tried.within.1 x first) in
+    let all = steps-low signature r.state i tried.kinds 0 [] x tried.reached u (way-none r.state i []) rest (tried.within.1 x first) in
     let count : 0 + length tried.kinds ≡ n = (let k : n ≡ length tried.kinds = tried.steps in omega arith) in
     record {
       on = ap side_told (activated-resting i r.state m.0 legal);
@@ -183,7 +184,7 @@ module _ (signature : Signature) (program : Tree) (journal : List Entry) (r : Re
       tall-made r entry.kind entry.number entry.steps entry.fresh entry.answer note.kind note.answer
       (ap (λ (z : Weak). has_such (is_tall (side_at entry.number z.state) entry.number) (attempt entry.number entry.steps entry.fresh z.state)) (sym rests) ∙ note.comes)
 
-  met : (entry.steps ≡ 0) ⊎ AreMadeWithin w entry.number entry.steps entry.fresh → MeetsTall r entry → ⊥
+  met : IsReachedWithin w entry → MeetsTall r entry → ⊥
   met (inl none) m = no-step r entry none m
   met (inr within) m = note-met r entry (tried-there signature r p w program journal h rests entry.number entry.steps entry.fresh within) m
 

@@ -14,10 +14,11 @@ use Rattle.ame_weak.specs.Bounds.{AreWithinBounds}
 use Rattle.ame_weak.specs.Straight.{outset, straight}
 use Rattle.ame_weak.specs.Tries.{AreTried, straight_with}
 use Rattle.ame_weak.specs.declared.tries.Try.{Try}
+use Rattle.ame_runner.specs.Within.{AreTriedWithin}
 use Rattle.ame_weak.proofs.StraightLemmas.{past_all, ends-strong, begun-followed}
 use Rattle.ame_certified.specs.Low.{StaysLow}
 use Rattle.ame_certified.specs.RoundTrip.{IsRoundTrip}
-use Rattle.ame_certified.specs.WeakTries.{AreTriedWithin, IsTallNote}
+use Rattle.ame_certified.specs.WeakTries.{IsTallNote}
 use Rattle.ame_certified.proofs.JudgedLemmas.{judged-valid, none-low}
 use Rattle.ame_certified.proofs.WeakLemmas.{IsLowSo, resting-way}
 use Rattle.ame_certified.proofs.TriedLemmas.{IsGoodFrom, with-low, tall-noted, straight-alone}

@@ -13,9 +13,10 @@ ghost use Rattle.ame_weak.specs.Bounds.{AreWithinBounds};
 ghost use Rattle.ame_weak.specs.Straight.{outset, straight};
 ghost use Rattle.ame_weak.specs.Tries.{AreTried, straight_with};
 ghost use Rattle.ame_weak.specs.declared.tries.Try.{Try};
+ghost use Rattle.ame_runner.specs.Within.{AreTriedWithin};
 ghost use Rattle.ame_certified.specs.Low.{StaysLow};
 ghost use Rattle.ame_certified.specs.RoundTrip.{IsRoundTrip};
-ghost use Rattle.ame_certified.specs.WeakTries.{AreTriedWithin, IsTallNote};
+ghost use Rattle.ame_certified.specs.WeakTries.{IsTallNote};
 
 /// Says that no entry of the journal of a weak run within the bounds passes a tall form. Nor does any note of an attempt within the bounds,
 /// or the note of a member that grows too tall.

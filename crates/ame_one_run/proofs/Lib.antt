@@ -6,3 +6,4 @@ pub mod JournalLemmas
 pub mod EndingLemmas
 pub mod OneRunLemmas
 pub mod CertificateLemmas
+pub mod RepeatLemmas

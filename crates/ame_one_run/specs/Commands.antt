@@ -1,4 +1,4 @@
--- The promise of each command whose run begins with the program.
+-- The commands by how their runs are made, and the promise of each whose run begins with the program.
 use Rattle.std.specs.Prelude.{⊤}
 use Rattle.ame_cli.specs.declared.command.Command.{Command}
 use Rattle.ame_shell.specs.Ends.{Ends}

@@ -7,4 +7,4 @@ mod theorems;
 
 pub use call::run_by_the_rules;
 pub use process::run_process;
-pub use theorems::{certificates_are_never_invalid, each_run, one_run};
+pub use theorems::{certificates_round_trip, each_run, one_run, picked_runs_repeat};

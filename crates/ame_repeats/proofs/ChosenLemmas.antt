@@ -57,12 +57,12 @@ module _ {S : Type 0} (run : S → List (List ℕ) → List ℕ) (asks : Asks ru
       let both : asks.pick x may ∷ run (asks.later x) (asked ++ rest) ≡ seat ∷ (picked ++ after rest) = sym (asks.steps x may (asked ++ rest)) ∙ h rest in cc
 
   module _ {C V M : Type 0} (meaning : Meaning C V M) where
-    some-apart : (o : Option Stop) → o ≡ None → IsSome o → ⊥
+    pub some-apart : (o : Option Stop) → o ≡ None → IsSome o → ⊥
     some-apart None e h = cc
     some-apart (Some why) e h = cc
 
     -- state and stop of a shell
-    stop-one : (old other : ShellView C V M) → state_of meaning old.core ≡ state_of meaning other.core → old.core.stop ≡ other.core.stop
+    pub stop-one : (old other : ShellView C V M) → state_of meaning old.core ≡ state_of meaning other.core → old.core.stop ≡ other.core.stop
     stop-one old other same = ap (λ (z : State). z.stop) same
 
     pub chosen-seats : (x : S) (waits : List Bool) (after next-after : List (List ℕ) → List ℕ) (mades others : List Made) (first last other end : ShellView C V M)

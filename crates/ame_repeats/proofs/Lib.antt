@@ -6,3 +6,4 @@ pub mod HandLemmas
 pub mod StepLemmas
 pub mod PlayLemmas
 pub mod ChosenLemmas
+pub mod ListedLemmas

@@ -4,5 +4,6 @@
 mod repeats;
 
 pub use repeats::{
-    chosen_runs_repeat, picks_repeat, prepared_machines_are_one, replays_repeat, turns_repeat,
+    chosen_runs_repeat, picks_repeat, prepared_machines_are_one, replays_repeat, schedules_repeat,
+    turns_repeat,
 };

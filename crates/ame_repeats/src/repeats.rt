@@ -9,6 +9,8 @@ ghost use Rattle.ame_shell.specs.Shell.{Opening, ShellView};
 ghost use Rattle.ame_sim.specs.declared.made.Made.{Made};
 ghost use Rattle.ame_sim.specs.Drawn.{drawn};
 ghost use Rattle.ame_sim.specs.Listed.{picked_as_listed};
+ghost use Rattle.ame_sim.specs.Picks.{picks_of};
+ghost use Rattle.ame_sim.specs.Questions.{seats_of};
 ghost use Rattle.ame_sim.specs.Prepared.{IsPreparedHand};
 ghost use Rattle.ame_repeats.specs.Answers.{AreAnsweredAlike};
 ghost use Rattle.ame_repeats.specs.Played.{AreUnfailed, IsUnfailed, IsUnfailedPick, AreOfOneProgram, AreOfTheSameSeats, ArePicksOf, EndsAlike};
@@ -59,4 +61,14 @@ where
     ensures list { (seats : List ℕ) (opening other : Opening M.Code) (mades others : List Made) (end last : End M.Value) → IsUnfailed M.meaning opening mades end
         → IsUnfailed M.meaning other others last → AreOfOneProgram M.meaning opening other → ArePicksOf (picked_as_listed seats) opening.limits.seats mades
         → ArePicksOf (picked_as_listed seats) other.limits.seats others → AreAnsweredAlike end.entries last.entries → (others ≡ mades) × EndsAlike end last }
+{}
+
+/// Says the same of a run whose picks are those of the list of the seats that the other run picked.
+pub fn schedules_repeat<M: Runner>()
+where
+    M::Code: Drop,
+    ensures { (opening other : Opening M.Code) (mades others : List Made) (end last : End M.Value) → IsUnfailed M.meaning opening mades end
+        → IsUnfailed M.meaning other others last → AreOfOneProgram M.meaning opening other
+        → ArePicksOf (picked_as_listed (seats_of (picks_of mades))) other.limits.seats others → AreAnsweredAlike end.entries last.entries
+        → (others ≡ mades) × EndsAlike end last }
 {}

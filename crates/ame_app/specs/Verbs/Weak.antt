@@ -1,5 +1,5 @@
 -- `weak`: a source that is the text of a program, run under the weak semantics by the choices of a seed.
-use Rattle.std.specs.Prelude.{◌≡◌, ◌≢◌, ℕ, ℤ, ◌*◌, ◌≤◌, List, ◌++◌, Option, Some, None, option_to_list, ⊤}
+use Rattle.std.specs.Prelude.{◌≡◌, ◌≢◌, ℕ, ℤ, ◌+◌, ◌*◌, ◌≤◌, List, ◌++◌, length, Option, Some, None, option_to_list, ⊤}
 use Rattle.ame_term.specs.Tree.{Tree}
 use Rattle.ame_term.specs.Frame.{Side}
 use Rattle.ame_term.specs.Context.{Focus, focus}
@@ -12,11 +12,17 @@ use Rattle.ame_journal.specs.declared.entry.Entry.{Entry}
 use Rattle.ame_journal.specs.Totals.{total_steps}
 use Rattle.ame_protocol.specs.declared.stop.Stop.{Stop}
 use Rattle.ame_shell.specs.Ends.{Ends, told_at}
-use Rattle.ame_weak.specs.Weak.{Weak, IsWeakRun}
+use Rattle.ame_weak.specs.Weak.{Weak, weak_start, IsWeakRun}
+use Rattle.ame_weak.specs.Bounds.{AreWithinBounds}
 use Rattle.ame_weak.specs.Straight.{outset}
 use Rattle.ame_weak.specs.Tries.{AreTried, straight_with}
 use Rattle.ame_weak.specs.declared.tries.Try.{Try}
 use Rattle.ame_runner.specs.Tall.{IsTallIn}
+use Rattle.ame_runner.specs.Within.{AreTriedWithin, IsReachedWithin}
+use Rattle.ame_runner.specs.Run.{turns_of_tries}
+use Rattle.ame_runner.specs.Ended.{IsCounted}
+use Rattle.ame_runner.specs.Drawn.{IsDrawn}
+use Rattle.ame_runner.specs.declared.stop.WeakStop.{WeakStop}
 use Rattle.ame_cli.specs.Items.{default_of}
 use Rattle.ame_cli.specs.declared.item.Item.TheVariants.{Slice}
 use Rattle.ame_cli.specs.declared.command.Options.{Options}
@@ -29,30 +35,57 @@ use Rattle.ame_app.specs.declared.left.WeakEnd.{WeakEnd}
 abbrev pub alone_with : ℕ → Options
 alone_with turns = record { workers = 1; turns = turns; slice = default_of Slice }
 
--- a note at the end of a journal tells of a member that is about to become a value that is too high in this state
-abbrev pub IsNoteAtEnd : Option Entry → State → Type 0
-IsNoteAtEnd None s = ⊤
-IsNoteAtEnd (Some entry) s = IsTallIn s entry
+-- A note at the end of a journal says that a member is about to become a value that is too high in this state, at once or by steps within the
+-- bounds.
+abbrev pub IsNoteAtEnd : Option Entry → Weak → Type 0
+IsNoteAtEnd None w = ⊤
+IsNoteAtEnd (Some entry) w = IsTallIn w.state entry × IsReachedWithin w entry
 
--- Labels are those of a weak run, at whose end nothing is active, and tries hold where they stand. Entries are the journal of the labels with
--- notes of the tries, and with that of a value that would be too high, if the run stopped by one.
+-- Labels are those of a weak run that ends with nothing active, and tries hold at their places; all steps are within the bounds. Entries are the
+-- journal of the labels with notes of the tries, and with the note about a value that would be too high, if that stopped the run.
 pub record IsWeakJournal (program : Tree) (labels : List Label) (tries : List Try) (entries : List Entry) : Type 0 where
   pub weak : Weak
   pub leads : IsWeakRun program labels weak
   pub idle : weak.state.active ≡ None
+  pub within : AreWithinBounds (weak_start program) labels
   pub tried : AreTried program labels tries
+  pub tried_within : AreTriedWithin program labels tries
   pub last : Option Entry
   pub entries_are : entries ≡ straight_with 0 tries outset labels ++ option_to_list last
-  pub grows : IsNoteAtEnd last weak.state
+  pub grows : IsNoteAtEnd last weak
 
 -- What is told
 
--- The run was a weak one, and its journal is that of its labels and tries. Steps and entries pay a third of its turns at least, unless memory
--- was wanted.
-pub record IsWeakened (program : Tree) (left : Left) : Type 0 where
+-- a stop of a weak run, as a stop of an engine
+abbrev pub stop_told : WeakStop → Stop
+stop_told WeakStop.Finished = Stop.Finished
+stop_told (WeakStop.Blocked certificates) = Stop.Blocked
+stop_told WeakStop.Spent = Stop.Spent
+stop_told (WeakStop.DeviceFault device) = Stop.DeviceFault device
+stop_told (WeakStop.Tall entry) = Stop.Tall entry.number
+stop_told WeakStop.NoMemory = Stop.NoMemory
+
+-- labels, tries, turns and stop are those of a run
+pub record IsEndOf (labels : List Label) (tries : List Try) (turns : ℕ) (stop : WeakStop) (weak : WeakEnd) : Type 0 where
+  pub labels_are : weak.labels.items ≡ labels
+  pub tries_are : weak.tries.items ≡ tries
+  pub turns_are : weak.turns ≡ turns
+  pub stop_is : weak.stop ≡ stop_told stop
+
+-- they are those that the numbers of the seed draw from the program, and the turns are counted from labels and tries
+pub record IsDrawnAs (program : Tree) (seed limit : ℕ) (weak : WeakEnd) : Type 0 where
+  pub stop : WeakStop
+  pub stop_is : weak.stop ≡ stop_told stop
+  pub drawn : IsDrawn program limit seed weak.labels.items weak.tries.items weak.turns stop
+  pub counted : IsCounted stop (length weak.labels.items + turns_of_tries weak.tries.items) weak.turns
+
+-- The run was a weak one, drawn by the numbers of the seed, unless it was out of memory. Its journal is that of its labels and tries, and has at
+-- least a third of its turns as steps and entries.
+pub record IsWeakened (program : Tree) (seed limit : ℕ) (left : Left) : Type 0 where
   pub weak : WeakEnd
   pub left_is : left ≡ Left.Weak weak
   pub journal : IsWeakJournal program weak.labels.items weak.tries.items weak.journal.entries
+  pub drawn : weak.stop ≢ Stop.NoMemory → IsDrawnAs program seed limit weak
   pub paid : weak.stop ≢ Stop.NoMemory → weak.turns ≤ 3 * total_steps weak.journal.entries
 
 -- a member stands at a call of a device

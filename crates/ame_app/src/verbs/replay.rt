@@ -3,6 +3,7 @@
 ghost use Rattle.std.specs.Prelude.{◌≡◌, ◌≤◌, ◌⊎◌, IfOk, IfErr, length, vec_len};
 ghost use Rattle.std.specs.Arc.{arc_value};
 ghost use Rattle.ame_cli.specs.Ranges.{AreInRange};
+ghost use Rattle.ame_app.specs.Headline.{limits_of};
 ghost use Rattle.ame_app.specs.Jobs.{IsOverWith};
 ghost use Rattle.ame_app.specs.Left.{end_in};
 ghost use Rattle.ame_app.specs.Verbs.Replay.{TakesScheduled, HasNoSchedule, IsPickedAsListed};
@@ -54,7 +55,7 @@ where
     requires ranges { AreInRange options }
     requires devices { (arc_value code.now).accepted.devices ≡ length io.ends.told }
     ensures over { IfOk result (λ made. IsOverWith options (arc_value code.now) io.ends (end_in made.left) made.io.ends) }
-    ensures own { IfOk result (λ made. IsPickedAsListed front.now options.workers made.left) }
+    ensures own { IfOk result (λ made. IsPickedAsListed front.now (arc_value code.now) (limits_of options) io.ends made.left) }
     ensures back { IfErr result (λ back. back ≡ io) }
 {
     let Front::Schedule(picks) = front else {

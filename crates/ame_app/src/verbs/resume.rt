@@ -11,7 +11,7 @@ ghost use Rattle.ame_code.specs.Code.{program_of};
 ghost use Rattle.ame_code.specs.FlatCode.{FlatCode};
 ghost use Rattle.ame_engine.specs.Resuming.{AreActs, FailsToResume, IsFar};
 ghost use Rattle.ame_engine.specs.Whole.{AreLimits};
-ghost use Rattle.ame_app.specs.Jobs.{HasJustResumed, IsEngineOn, IsOutlook, IsOverFrom, IsReplayable};
+ghost use Rattle.ame_app.specs.Jobs.{HasJustResumed, IsEngineOn, IsOutlook, IsOverResumed, IsReplayable};
 ghost use Rattle.ame_app.specs.Left.{end_in};
 ghost use Rattle.ame_app.specs.Verbs.Check.{entries_before as entries_in};
 ghost use Rattle.ame_app.specs.Verbs.Resume.{TellsResumed};
@@ -167,7 +167,7 @@ where
     requires limits { AreLimits engine.limits }
     requires code { arc_value code.now ≡ engine.code }
     requires devices { engine.code.accepted.devices ≡ length io.ends.told }
-    ensures over { IfOk result (λ made. IsOverFrom engine io.ends (end_in made.left) made.io.ends) }
+    ensures over { IfOk result (λ made. IsOverResumed engine io.ends (end_in made.left) made.io.ends) }
     ensures own { IfOk result (λ made. TellsResumed made.left) }
     ensures back { IfErr result (λ back. back ≡ io) }
 {

@@ -9,6 +9,7 @@ ghost use Rattle.ame_io.specs.Writes.{AppendsFront};
 ghost use Rattle.ame_app.specs.Verbs.Sim.{IsPicked, mades_in, seats_picked, schedule_behind};
 ghost use Rattle.ame_app.specs.declared.left.Left.{Left as Ending};
 ghost use Rattle.ame_app.specs.Left.{end_in};
+ghost use Rattle.ame_app.specs.Headline.{limits_of};
 ghost use Rattle.ame_app.specs.Jobs.{IsOverWith};
 ghost use Rattle.ame_sim.specs.Picks.{picks_of};
 ghost use Rattle.ame_sim.specs.Questions.{seats_of};
@@ -48,7 +49,7 @@ where
     requires ranges { AreInRange options }
     requires devices { (arc_value code.now).accepted.devices ≡ length io.ends.told }
     ensures over { IfOk result (λ made. IsOverWith options (arc_value code.now) io.ends (end_in made.left) made.io.ends) }
-    ensures own { IfOk result (λ made. IsPicked (H.strategy chooser.old) options.workers made.left) }
+    ensures own { IfOk result (λ made. IsPicked (H.strategy chooser.old) (arc_value code.now) (limits_of options) io.ends made.left) }
     ensures back { IfErr result (λ back. back ≡ io) }
 {
     let Ok(code) = Arc::try_clone(code) else {

@@ -2,7 +2,7 @@
 
 mod store;
 
-ghost use Rattle.std.specs.Prelude.{◌≡◌, ◌++◌, ◌∷◌, [], IfOk, OnOk, List, length, ℕ};
+ghost use Rattle.std.specs.Prelude.{◌≡◌, ◌++◌, ◌∷◌, ◌⊎◌, [], IfOk, OnOk, List, length, ℕ};
 ghost use Rattle.std.specs.Arc.{arc_value};
 ghost use Rattle.ame_io.specs.Lines.{lines};
 ghost use Rattle.ame_cli.specs.Ranges.{IsInRange};
@@ -12,8 +12,8 @@ ghost use Rattle.ame_device.specs.declared.told.Told.{Told};
 ghost use Rattle.ame_journal.specs.JournalView.{IsFit};
 ghost use Rattle.ame_runner.specs.Ended.{IsWeakRunOf, TellsStop, notes_of_stop};
 ghost use Rattle.ame_app.specs.Headline.{limits_of};
-ghost use Rattle.ame_app.specs.Jobs.{certificates_told, stop_told, HasLeft, IsWeakRunMade, LeadsToLeft, LeavesFit, TellsWeakly};
-ghost use Rattle.ame_app.specs.Verbs.Weak.{alone_with};
+ghost use Rattle.ame_app.specs.Jobs.{certificates_told, HasLeft, IsWeakRunMade, LeadsToLeft, LeavesFit, TellsWeakly};
+ghost use Rattle.ame_app.specs.Verbs.Weak.{alone_with, stop_told, IsEndOf};
 
 use crate::left::{Left, WeakEnd};
 use crate::limits::limits_of;
@@ -122,6 +122,7 @@ fn straightened(
         → TellsStop (program_of (arc_value code.now)) limit run.labels.items run.tries.items run.turns before after run.stop
         → TellsWeakly (program_of (arc_value code.now)) limit weak before after) }
     ensures has_left { IfOk result (HasLeft (arc_value code.now) (limits_of (alone_with limit))) }
+    ensures same { IfOk result (IsEndOf run.labels.items run.tries.items run.turns run.stop) }
 {
     let accepted = code.accepted();
     tries_straighten(accepted);
@@ -159,6 +160,7 @@ fn untold(alloc: Global, code: &Arc<Code>, limit: u32, turns: u32) -> WeakEnd
         → TellsWeakly (program_of (arc_value code.now)) limit result before after }
     ensures has_left { HasLeft (arc_value code.now) (limits_of (alone_with limit)) result }
     ensures output { result.output.items ≡ [] }
+    ensures stop { result.stop ≡ Stop.NoMemory }
 {
     weak_runs_are_typed(code.accepted());
     WeakEnd {
@@ -195,6 +197,7 @@ fn end_with_lines(
         → TellsWeakly (program_of (arc_value code.now)) limit spoken.weak before after) }
     ensures has_left { IfOk result (λ spoken. HasLeft (arc_value code.now) (limits_of (alone_with limit)) spoken.weak) }
     ensures lines { IfOk result (λ spoken. spoken.lines.items ≡ lines spoken.weak.output.items) }
+    ensures same { IfOk result (λ spoken. IsEndOf run.labels.items run.tries.items run.turns run.stop spoken.weak) }
 {
     let weak = straightened(alloc, code, limit, run)?;
     let lines = lines_of(alloc, &weak.output)?;
@@ -211,6 +214,7 @@ fn end_or_turns(alloc: Global, code: &Arc<Code>, limit: u32, run: WeakRun) -> Sp
         → TellsWeakly (program_of (arc_value code.now)) limit result.weak before after }
     ensures has_left { HasLeft (arc_value code.now) (limits_of (alone_with limit)) result.weak }
     ensures lines { result.lines.items ≡ lines result.weak.output.items }
+    ensures same { (result.weak.stop ≡ Stop.NoMemory) ⊎ IsEndOf run.labels.items run.tries.items run.turns run.stop result.weak }
 {
     let turns = run.turns;
     match end_with_lines(alloc, code, limit, run) {
@@ -235,7 +239,7 @@ where
     K: Sink + Drop,
     D: Device,
     requires range { IsInRange (Asked.Weak seed turns) }
-    ensures { IsWeakRunMade turns (arc_value code.now) io.ends result.left result.ahead.items result.io.ends }
+    ensures { IsWeakRunMade seed turns (arc_value code.now) io.ends result.left result.ahead.items result.io.ends }
 {
     let (sink, mut devices) = io.into_parts();
     let run = weak_run(alloc, code.accepted(), turns, seed, &mut devices);

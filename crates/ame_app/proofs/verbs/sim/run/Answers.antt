@@ -2,10 +2,8 @@ use Rattle.std.proofs.Common.{◌≤◌, ap, subst, sym}
 use Rattle.std.specs.Arc.{arc_value}
 use Rattle.ame_protocol.specs.declared.types.Limits.{Limits}
 use Rattle.ame_app.specs.declared.left.Extra.{Extra}
-use Rattle.ame_app.specs.declared.left.Left.{Left}
-use Rattle.ame_app.specs.Verbs.Sim.{IsPicked}
 use Rattle.ame_app.proofs.OverLemmas.{over-with}
-use Rattle.ame_app.proofs.PickLemmas.{played-picked, mades-low}
+use Rattle.ame_app.proofs.PickLemmas.{picked-with, mades-low}
 use Rattle.ame_app.proofs.verbs.sim.run.Goals as goal
 
 pub returns-in-Ok-run_by_chooser-clause-over : goal.returns-in-Ok-run_by_chooser-clause-over
@@ -16,10 +14,10 @@ returns-in-Ok-run_by_chooser-clause-over g c =
 
 pub returns-in-Ok-run_by_chooser-clause-own : goal.returns-in-Ok-run_by_chooser-clause-own
 returns-in-Ok-run_by_chooser-clause-own g c =
-    let strategy = g.H.Chooser.strategy c.args.chooser.now in
-    subst (λ (l : Limits). IsPicked strategy l.seats (Left.Engine c.in-Ok-run_by_chooser.played.left.ended (Extra.Picked c.of_run.result))) c.limits_of-limits.ensures
-    (played-picked _ _ strategy (g.H.Chooser.strategy c.run_by_chooser.new.chooser) _ _ _
-    (ap Extra.Picked c.of_run.ensures) c.in-Ok-run_by_chooser.ensures.played c.in-Ok-run_by_chooser.ensures.answers)
+    let played = c.in-Ok-run_by_chooser.played in
+    picked-with c.limits_of-limits.result c.args.io.ends (g.H.Chooser.strategy c.args.chooser.now) (g.H.Chooser.strategy c.run_by_chooser.new.chooser)
+    played.mades.items (Extra.Picked c.of_run.result) played.left.ended (ap Extra.Picked c.of_run.ensures) c.args.options (arc_value c.args.code.now) _
+    c.in-Ok.ensures c.limits_of-limits.ensures c.in-Ok-run_by_chooser.ensures.played c.in-Ok-run_by_chooser.ensures.answers
 
 pub of_run-requires : goal.of_run-requires
 of_run-requires g c =

@@ -6,7 +6,7 @@ use Rattle.ame_code.specs.FlatCode.{FlatCode}
 use Rattle.ame_value.specs.declared.val.Val.{Val}
 use Rattle.ame_engine.proofs.ResumedLemmas.{stands-as}
 use Rattle.ame_eval.specs.declared.fragment.Fragment.{Fragment}
-use Rattle.ame_app.specs.Jobs.{fragments}
+use Rattle.ame_app.specs.Fragments.{fragments}
 use Rattle.ame_app.proofs.LeftLemmas.{leads-left}
 use Rattle.ame_app.proofs.verbs.weak.rest_of.Goals as goal
 

@@ -1,4 +1,4 @@
-/* Judges a certificate, and prints its lines and how many entries it has. */
+/* Runs a program by a seed, prints its lines, and judges the certificate of the run. */
 #include "ame.h"
 
 #include <inttypes.h>
@@ -7,14 +7,20 @@
 
 int main(void)
 {
-    const char *certificate = "ran 0 0 3\nran 0 1 1\nprogram\n(do (async (print 1)) (print 2))";
-    uint8_t room[1000];
+    const char *text = "(do (async (print 1)) (print 2))";
+    const struct ame_limits limits = {2, 1000, 1000};
+    uint8_t lines[1000], certificate[1000], schedule[1000];
+    struct ame_whole whole;
     uint64_t number;
-    size_t whole;
+    size_t length;
 
-    if (ame_check((const uint8_t *)certificate, strlen(certificate), room, sizeof room, &number, &whole) != AME_VALID)
+    int status = ame_sim((const uint8_t *)text, strlen(text), 3, &limits, lines, sizeof lines, certificate, sizeof certificate,
+                         schedule, sizeof schedule, &whole);
+    if (status != AME_FINISHED)
+        return status;
+    fwrite(lines, 1, whole.lines, stdout);
+    if (ame_check(certificate, whole.certificate, lines, sizeof lines, &number, &length) != AME_VALID)
         return 1;
-    fwrite(room, 1, whole, stdout);
     printf("%" PRIu64 " entries\n", number);
     return 0;
 }

@@ -1,7 +1,8 @@
-"""Judges a certificate, and prints its lines and how many entries it has."""
+"""Runs a program by a seed, prints its lines, and judges the certificate of the run."""
 import ame
 
-judged = ame.check(b"ran 0 0 3\nran 0 1 1\nprogram\n(do (async (print 1)) (print 2))")
+run = ame.sim(b"(do (async (print 1)) (print 2))", 3, ame.Limits(workers=2))
+print(run.lines.decode(), end="")
+judged = ame.check(run.certificate)
 if judged.status == ame.Status.VALID:
-    print(judged.lines.decode(), end="")
     print(judged.number, "entries")

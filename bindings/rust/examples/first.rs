@@ -1,11 +1,13 @@
-//! Judges a certificate, and prints its lines and how many entries it has.
+//! Runs a program by a seed, prints its lines, and judges the certificate of the run.
 
-use ame::{check, Status};
+use ame::{check, sim, Limits, Status};
 
 fn main() {
-    let judged = check(b"ran 0 0 3\nran 0 1 1\nprogram\n(do (async (print 1)) (print 2))");
+    let limits = Limits { workers: 2, ..Limits::default() };
+    let run = sim(b"(do (async (print 1)) (print 2))", 3, limits);
+    print!("{}", String::from_utf8_lossy(&run.lines));
+    let judged = check(&run.certificate);
     if judged.status == Status::Valid {
-        print!("{}", String::from_utf8_lossy(&judged.lines));
         println!("{} entries", judged.number);
     }
 }

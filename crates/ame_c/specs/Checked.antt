@@ -11,11 +11,8 @@ use Rattle.ame_app.specs.Jobs.{IsTextStatus}
 use Rattle.ame_app.specs.Texts.{IsProgramOf}
 use Rattle.ame_app.specs.Verbs.Check.{TakesCertificate, HasNoCertificate, entries_before, TellsOfJournal}
 use Rattle.ame_app.specs.Verdict.{verdict}
-use Rattle.ame_c.specs.Out.{IsHandedOut}
-
--- a program may call as many devices as a process has
-abbrev pub device_count : ℕ
-device_count = 2
+use Rattle.ame_c.specs.Out.{IsTold, IsHandedOut}
+use Rattle.ame_c.specs.Devices.{device_count}
 
 -- The bytes are a journal and the text of a program, and the command `check` judges them so.
 pub record IsJudgedAs (bytes : List ℕ) (ahead : List ℕ) (told : Status) : Type 0 where
@@ -29,7 +26,7 @@ pub record IsJudgedAs (bytes : List ℕ) (ahead : List ℕ) (told : Status) : Ty
   pub tells : TellsOfJournal (tree_of accepted.program.term) (entries_before front) ahead own told
 
 -- there are more bytes than are read
-pub record IsTooLong (bytes : List ℕ) (told : Status) : Type 0 where
+pub record AreTooMany (bytes : List ℕ) (told : Status) : Type 0 where
   pub long : whole_limit < length bytes
   pub told_is : told ≡ Status.TooLong
 
@@ -42,12 +39,13 @@ pub record HasNoCode (bytes : List ℕ) (told : Status) : Type 0 where
   pub why : IsTextStatus text device_count told
 
 -- the status of bytes that aren't judged
-abbrev pub IsRefused : List ℕ → Status → Type 0
-IsRefused bytes told = IsTooLong bytes told ⊎ ((length bytes ≤ whole_limit) × HasNoCertificate bytes told) ⊎ HasNoCode bytes told ⊎ (told ≡ Status.NoMemory)
+abbrev pub IsUnjudged : List ℕ → Status → Type 0
+IsUnjudged bytes told =
+    AreTooMany bytes told ⊎ ((length bytes ≤ whole_limit) × HasNoCertificate bytes told) ⊎ HasNoCode bytes told ⊎ (told ≡ Status.NoMemory)
 
 -- a status is that of the bytes, with these lines before its own
 abbrev pub TellsAhead : List ℕ → List ℕ → Status → Type 0
-TellsAhead bytes ahead told = IsJudgedAs bytes ahead told ⊎ ((ahead ≡ []) × IsRefused bytes told)
+TellsAhead bytes ahead told = IsJudgedAs bytes ahead told ⊎ ((ahead ≡ []) × IsUnjudged bytes told)
 
 -- a status is that of the bytes, and these are all lines
 pub record TellsLines (bytes : List ℕ) (told : Status) (lines : List ℕ) : Type 0 where
@@ -60,4 +58,5 @@ pub record AnswersCheck (bytes : List ℕ) (room : List ℕ) (status : ℕ) (lef
   pub told : Status
   pub lines : List ℕ
   pub tells : TellsLines bytes told lines
-  pub out : IsHandedOut told lines room status left number whole
+  pub is_told : IsTold told status number
+  pub out : IsHandedOut lines room left whole

@@ -1,2 +1,6 @@
 pub mod Out
+pub mod Devices
 pub mod Checked
+pub mod Typed
+pub mod Version
+pub mod Made

@@ -1,4 +1,4 @@
-//! The number in the line of a status.
+//! The numbers in the line of a status.
 
 ghost use Rattle.std.specs.Prelude.{◌≡◌};
 ghost use Rattle.ame_c.specs.Out as spec;
@@ -23,15 +23,32 @@ fn place_in(fault: &TextFault) -> u32
     }
 }
 
-/// Returns the last number in the line of a status that a certificate can have; 0 for any other.
+/// Returns the last number in the line of a status, or of a device that failed its own; 0 if there is none.
 pub(crate) fn place_of(told: &Status) -> u64
     ensures { result ≡ spec.place_of told.now }
 {
     match told {
-        Status::Valid(place) | Status::Invalid(place) | Status::LongJournal(place) => *place,
+        Status::Blocked(number)
+        | Status::Tall(number)
+        | Status::Valid(number)
+        | Status::Invalid(number)
+        | Status::LongJournal(number)
+        | Status::FarJournal(number)
+        | Status::TallJournal(number) => *number,
+        Status::DeviceFault(device) => u64::from(*device),
         Status::BadJournal(line) => u64::from(*line),
         Status::Text(fault) => u64::from(place_in(fault)),
         Status::Types(fault) => u64::from(fault.place),
+        _ => 0,
+    }
+}
+
+/// Returns the rule of the types that a text breaks; 0 if there is none.
+pub(crate) fn rule_of(told: &Status) -> u8
+    ensures { result ≡ spec.rule_of told.now }
+{
+    match told {
+        Status::Types(fault) => fault.rule,
         _ => 0,
     }
 }

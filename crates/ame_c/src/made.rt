@@ -1,0 +1,100 @@
+//! Runs that are made in memory.
+
+ghost use Rattle.std.specs.Prelude.{◌≡◌, IfErr, IfOk, option_map, vec_len};
+ghost use Rattle.ame_app.specs.Reported.{run_view};
+ghost use Rattle.ame_c.specs.Made as spec;
+ghost use Rattle.ame_c.specs.Made.{Certifies, IsMade, IsUnmade, Schedules, TellsMade, texts};
+ghost use Rattle.ame_c.specs.Out.{bytes_in};
+
+use crate::lines::Lines;
+use crate::page::Page;
+use ame_app::{Alone, Extra, Left, Ran, Status, run_alone_over, standard_devices};
+use ame_term::NoMemory;
+use ame_views::{input_of, journal_of};
+use std::alloc::Global;
+
+/// The status of a call with its lines, and the certificate and the schedule of its run.
+#[derive(Drop)]
+pub(crate) struct Made {
+    pub(crate) told: Status,
+    pub(crate) lines: Lines,
+    pub(crate) certificate: Vec<u8>,
+    pub(crate) schedule: Vec<u8>,
+}
+
+/// Does a command with these bytes. If that can't be done, there is only the line that says why.
+pub(crate) fn made_by(alloc: Global, command: Alone, bytes: &[u8]) -> Made
+    ensures { TellsMade command bytes.now result.told (texts (bytes_in result.lines) result.certificate.items result.schedule.items) }
+{
+    match make(alloc, command, bytes) {
+        Ok(made) => made,
+        Err(told) => Made {
+            lines: Lines::of(&told),
+            told,
+            certificate: Vec::new(alloc),
+            schedule: Vec::new(alloc),
+        },
+    }
+}
+
+/// Does a command with these bytes, or returns why that can't be done.
+fn make(alloc: Global, command: Alone, bytes: &[u8]) -> Result<Made, Status>
+    ensures made { IfOk result (λ made. IsMade command bytes.now made.told (texts (bytes_in made.lines) made.certificate.items made.schedule.items)) }
+    ensures unmade { IfErr result (IsUnmade command) }
+{
+    if !command.is_in_range() {
+        return Err(Status::Usage);
+    }
+    let Ok(devices) = standard_devices(alloc) else {
+        return Err(Status::NoMemory);
+    };
+    let report = run_alone_over(alloc, command, bytes, Page::new(alloc), devices);
+    let (Ok(certificate), Ok(schedule)) = (
+        certificate_of(alloc, &report.run, &report.text),
+        schedule_of(alloc, &report.run, &report.text),
+    ) else {
+        return Err(Status::NoMemory);
+    };
+    Ok(Made {
+        told: told_of(report.status),
+        lines: Lines::Many(report.sink.bytes),
+        certificate,
+        schedule,
+    })
+}
+
+/// Returns the status of a call whose lines stay in memory, by that of its report.
+fn told_of(status: Status) -> Status
+    ensures { result ≡ spec.told_of status }
+{
+    match status {
+        Status::WriteFault => Status::NoMemory,
+        status => status,
+    }
+}
+
+/// Returns the certificate of a run, if one was begun.
+fn certificate_of(alloc: Global, run: &Option<Ran>, text: &[u8]) -> Result<Vec<u8>, NoMemory>
+    ensures { IfOk result (λ bytes. Certifies (option_map run_view run.now) text.now bytes.items) }
+{
+    let Some(run) = run else {
+        return Ok(Vec::new(alloc));
+    };
+    match journal_of(alloc, run.left.journal())? {
+        Some(journal) => input_of(alloc, &journal, text),
+        None => Ok(Vec::new(alloc)),
+    }
+}
+
+/// Returns the schedule of a run with its program, if one was begun that has picks.
+fn schedule_of(alloc: Global, run: &Option<Ran>, text: &[u8]) -> Result<Vec<u8>, NoMemory>
+    ensures { IfOk result (λ bytes. Schedules (option_map run_view run.now) text.now bytes.items) }
+{
+    let Some(run) = run else {
+        return Ok(Vec::new(alloc));
+    };
+    match &run.left {
+        Left::Engine(_, Extra::Picked(mades)) => mades.schedule_text(alloc, text),
+        Left::Engine(_, Extra::Nothing | Extra::Resumed(_)) | Left::Weak(_) => Ok(Vec::new(alloc)),
+    }
+}

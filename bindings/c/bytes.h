@@ -1,4 +1,4 @@
-/* Reading a file, for the examples. */
+/* Reading a file, and keeping freed pages, for the examples. */
 #ifndef BYTES_H
 #define BYTES_H
 
@@ -6,6 +6,9 @@
 
 #include <stdio.h>
 #include <stdlib.h>
+#ifdef __GLIBC__
+#include <malloc.h>
+#endif
 
 /* The statuses of an example that could not call the library. */
 enum { WRONG_WORDS = 3, UNREADABLE = 4, NO_ROOM = 9 };
@@ -32,6 +35,16 @@ static inline struct bytes read_file(const char *name)
         exit(UNREADABLE);
     fclose(file);
     return bytes;
+}
+
+/* Lets glibc keep the pages that a call frees, so that the next call finds them. A program that calls the library again and again gains by
+ * it. Other C libraries do as they like. */
+static inline void keep_pages(void)
+{
+#ifdef __GLIBC__
+    mallopt(M_TRIM_THRESHOLD, 256 << 20);
+    mallopt(M_MMAP_THRESHOLD, 32 << 20);
+#endif
 }
 
 #endif

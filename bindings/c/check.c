@@ -29,6 +29,7 @@ static int measure(struct bytes certificate, long times)
     uint64_t number;
     size_t whole;
     int status = 0;
+    keep_pages();
     clock_t start = clock();
     for (long i = 0; i < times; i++)
         status = ame_check(certificate.at, certificate.length, room, sizeof room, &number, &whole);

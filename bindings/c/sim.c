@@ -21,6 +21,7 @@ static int measure(struct bytes text, uint32_t seed, long times)
 {
     struct ame_whole whole;
     int status = 0;
+    keep_pages();
     clock_t start = clock();
     for (long i = 0; i < times; i++)
         status = run(text, (uint32_t)((seed + (unsigned long)i) % SEEDS), &whole);

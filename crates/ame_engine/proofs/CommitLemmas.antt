@@ -3,6 +3,7 @@ use Rattle.std.proofs.Common.{◌≡◌, ℕ, ◌+◌, ◌<◌, ◌≤◌, ◌�
 use Rattle.std.specs.Prelude.{ℤ, Contains, slice_set, unwrap_or, max}
 use Rattle.std.specs.List.Sorted.{IsPermutation, IsStrictlyIncreasing}
 use Rattle.std.specs.Option.{option_map_or}
+use Rattle.std.proofs.lemmas.List.Sorted.{IsPermutation-refl}
 use Rattle.std.proofs.lemmas.List.Elements.{All-map, All-set, All-nil, All-cons, All-head, All-tail, All-weaker}
 use Rattle.ame_io.specs.Lines.{lines}
 use Rattle.ame_term.specs.Tree.{Val, Tree}
@@ -23,7 +24,7 @@ use Rattle.ame_rows.specs.Valid.{IsValid}
 use Rattle.ame_machine.specs.Run.Local.{LocalState, local}
 use Rattle.ame_pool.specs.Members.{find, is_busy}
 use Rattle.ame_pool.specs.Roster.{Roster}
-use Rattle.ame_pool.specs.Calls.{IsAt, exchanged, removed, with_room}
+use Rattle.ame_pool.specs.Calls.{IsAt, exchanged, removed, woken, with_room}
 use Rattle.ame_rows.specs.MemoryView.{Log, MemoryView, no_log, row_at}
 use Rattle.ame_rows.specs.Access.{is_owned_by}
 use Rattle.ame_rows.specs.Entries.{named_by, places}
@@ -63,8 +64,8 @@ use Rattle.ame_engine.specs.AtWork.{IsOnSeat, IsOn}
 use Rattle.ame_engine.specs.Committing.{commits, owned_places, ended_at, left_at, ends_at, leaves_at}
 use Rattle.ame_engine.proofs.ReadLemmas.{runs-as}
 use Rattle.ame_engine.proofs.CheckLemmas.{valid-shown}
-use Rattle.ame_engine.proofs.OwnedLemmas.{owned-are}
-use Rattle.ame_engine.proofs.CrewLemmas.{woken-rest, all-woken-shown, busy-told, none-told, room-used, all-woken-room}
+use Rattle.ame_engine.proofs.OwnedLemmas.{owned-are, owned-named as owned-listed}
+use Rattle.ame_engine.proofs.CrewLemmas.{woken-rest, woken-none, woken-alike, all-woken-shown, busy-told, none-told, room-used, all-woken-room}
 use Rattle.ame_machine.specs.Meaning.{Meaning}
 use Rattle.ame_machine.specs.RefSorts.{IsRefForm}
 use Rattle.ame_engine.proofs.SoundLemmas.{sound-next}
@@ -135,6 +136,36 @@ all-grow view [] all = All-nil CanGrow
 all-grow view (cell ∷ cells) all =
     let head : CanGrow (shown_cell view cell) = All-head CanGrow (shown_cell view cell) (map (shown_cell view) cells) all in
     All-cons CanGrow cell cells head (all-grow view cells (All-tail CanGrow (shown_cell view cell) (map (shown_cell view) cells) all))
+
+-- The locations for which a commit wakes members
+
+module _ {C V M : Type 0} (meaning : Meaning C V M) (core now : Core C V M) (view : core ≡ now) (whole : IsSound meaning core) (seat : ℕ) where
+  abbrev WakesAlike : List ℕ → Core C V M → Type 0
+  WakesAlike ls x = woken_for ls x.pool ≡ woken_for (owned_places seat (parts_of meaning x).memory.cells) x.pool
+
+  owned-shown : (ls : List ℕ) → IsPermutation (places (row_at core.memory.rows seat).undos) ls → IsStrictlyIncreasing ls
+      → ls ≡ owned_places seat (parts_of meaning core).memory.cells
+  owned-shown ls same rising =
+      let parts = parts_of meaning core in
+      let as-shown : places (row_at parts.memory.rows seat).undos ≡ places (row_at core.memory.rows seat).undos =
+      ap (λ (n : Log Val). places n.undos) (row-shown (meaning.value_of core.code) core.memory.rows seat)
+      ∙ places-shown (meaning.value_of core.code) (row_at core.memory.rows seat).undos in
+      owned-are seat parts.memory.cells (row_at parts.memory.rows seat).undos (whole.state.stands.consistent.logs seat) ls
+      (subst (λ (ns : List ℕ). IsPermutation ns ls) (sym as-shown) same) rising
+
+  -- those that its log names wake what its cells do
+  pub owned-wake : (owned : List Loc) → IsPermutation (places (row_at core.memory.rows seat).undos) (map (λ l. l.0) owned)
+      → IsStrictlyIncreasing (map (λ l. l.0) owned) → WakesAlike (map (λ l. l.0) owned) now
+  owned-wake owned same rising =
+      let ls : List ℕ = map (λ l. l.0) owned in
+      subst (WakesAlike ls) view (ap (λ (ks : List ℕ). woken_for ks core.pool) (owned-shown ls same rising))
+
+  -- and if no location wakes a member, neither do they
+  pub nobody-wakes : (locs : List Loc) → locs ≡ [] → ((l : ℕ) → woken l core.pool ≡ core.pool) → WakesAlike (map (λ l. l.0) locs) now
+  nobody-wakes locs empty none =
+      subst (WakesAlike (map (λ l. l.0) locs)) view
+      (ap (λ (ls : List Loc). woken_for (map (λ l. l.0) ls) core.pool) empty
+      ∙ sym (woken-none (owned_places seat (parts_of meaning core).memory.cells) core.pool none))
 
 -- The whole engine
 
@@ -226,32 +257,30 @@ module _ {C V M : Type 0} (meaning : Meaning C V M)
   pub commit-grows : All CanGrow core.memory.cells
   commit-grows = all-grow (meaning.value_of core.code) core.memory.cells (cells-grow parts whole.state.stands (let h = whole.limits.turns in omega arith))
 
-  -- the locations that it owns
-  module _ (owned : List Loc) (same : IsPermutation (places (row_at core.memory.rows seat).undos) (map (λ l. l.0) owned))
-      (rising : IsStrictlyIncreasing (map (λ l. l.0) owned)) where
+  -- the locations that it owns, and those for which members are woken, which wake the same
+  module _ (owned : List Loc)
+      (alike-now : woken_for (map (λ l. l.0) owned) now.pool ≡ woken_for (owned_places seat (parts_of meaning now).memory.cells) now.pool) where
     abbrev ls : List ℕ
-    ls = map (λ (l : Loc). l.0) owned
+    ls = owned_places seat parts.memory.cells
 
-    places-same : places (row_at parts.memory.rows seat).undos ≡ places (row_at core.memory.rows seat).undos
-    places-same =
-        ap (λ (n : Log Val). places n.undos) (row-shown (meaning.value_of core.code) core.memory.rows seat)
-        ∙ places-shown (meaning.value_of core.code) (row_at core.memory.rows seat).undos
+    alike : woken_for (map (λ l. l.0) owned) core.pool ≡ woken_for ls core.pool
+    alike =
+        subst (λ (x : Core C V M). woken_for (map (λ l. l.0) owned) x.pool ≡ woken_for (owned_places seat (parts_of meaning x).memory.cells) x.pool) (sym view)
+        alike-now
 
-    ls-are : ls ≡ owned_places seat parts.memory.cells
-    ls-are =
-        owned-are seat parts.memory.cells (row_at parts.memory.rows seat).undos (whole.state.stands.consistent.logs seat) ls
-        (subst (λ (ns : List ℕ). IsPermutation ns ls) (sym places-same) same) rising
-
-    woken-there : (l : ℕ) → IsOwnedBy seat (cell_at (heap_in parts) l) → Contains (owned_places seat parts.memory.cells) l
+    woken-there : (l : ℕ) → IsOwnedBy seat (cell_at (heap_in parts) l) → Contains ls l
     woken-there l own =
-        subst (λ (ns : List ℕ). Contains ns l) ls-are
-        (owned-named parts seat ls whole.state.stands (subst (λ (ns : List ℕ). IsPermutation ns ls) (sym places-same) same) l own)
+        let undos = (row_at parts.memory.rows seat).undos in
+        owned-listed seat parts.memory.cells undos (whole.state.stands.consistent.logs seat) l
+        (owned-named parts seat (places undos) whole.state.stands (IsPermutation-refl (places undos)) l own)
 
     -- the pool, with room for the new members and with those that are woken
     module _ (count : ℕ) (count_is : count ≡ length s.spawns) (roomy waked : Roster M) (roomy_is : roomy ≡ with_room count core.pool)
         (slice : List Loc) (slice_is : slice ≡ owned) (wakes : waked ≡ woken_for (map (λ l. l.0) slice) roomy) where
       waked_is : waked ≡ woken_for ls roomy
-      waked_is = wakes ∙ ap (λ (xs : List Loc). woken_for (map (λ l. l.0) xs) roomy) slice_is
+      waked_is =
+          wakes ∙ ap (λ (xs : List Loc). woken_for (map (λ l. l.0) xs) roomy) slice_is ∙ ap (woken_for (map (λ l. l.0) owned)) roomy_is
+          ∙ woken-alike (map (λ l. l.0) owned) ls count core.pool alike ∙ ap (woken_for ls) (sym roomy_is)
 
       abbrev plain_roomy : Roster Tree
       plain_roomy = with_room count parts.pool
@@ -371,7 +400,6 @@ module _ {C V M : Type 0} (meaning : Meaning C V M)
             ended-parts =
                 parts-by (removed number (with_newcomers core.next s.spawns (woken_for ls parts.pool)))
                 (ap shown (ended (next-wants ∙ done)) ∙ removed-shown (term_shown meaning.stage core.code) number joined ∙ ap (removed number) joined-shown)
-                ∙ ap (λ (ns : List ℕ). has_ended seat number s.steps (place_shown s) ns parts) ls-are
 
             at-value : at_value (focus place.0.term) ≡ true
             at-value = ap (λ (t : Tree). at_value (focus t)) term-is ∙ (comes_as s Need.Done (sound'.told wants.Done done)).1
@@ -384,7 +412,6 @@ module _ {C V M : Type 0} (meaning : Meaning C V M)
                 parts-by (exchanged number s.term true (with_newcomers core.next s.spawns (woken_for ls parts.pool)))
                 (gone (next-wants ∙ leaves)
                 ∙ ap (λ (t : Tree). exchanged number t true (shown joined)) next-term ∙ ap (exchanged number s.term true) joined-shown)
-                ∙ ap (λ (ns : List ℕ). has_left seat number s.steps (place_shown s) ns parts) ls-are
 
             at-unprotected : at_unprotected (focus place.0.term) ≡ true
             at-unprotected = ap (λ (t : Tree). at_unprotected (focus t)) term-is ∙ (comes_as s Need.Leave (sound'.told wants.Leave leaves)).1

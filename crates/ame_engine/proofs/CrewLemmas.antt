@@ -53,6 +53,11 @@ pub woken-end : {M : Type 0} (locs : List Loc) (i : ℕ) (pool start : Roster M)
     → woken_for (map (λ l. l.0) (drop i locs)) pool ≡ start → pool ≡ start
 woken-end locs i pool start all before = sym (ap (λ (ls : List Loc). woken_for (map (λ l. l.0) ls) pool) (drop_all i locs all)) ∙ before
 
+-- if no location wakes a member, all of them together wake none
+pub woken-none : {M : Type 0} (ls : List ℕ) (pool : Roster M) → ((l : ℕ) → woken l pool ≡ pool) → woken_for ls pool ≡ pool
+woken-none [] pool none = refl
+woken-none (l ∷ ls) pool none = ap (woken_for ls) (none l) ∙ woken-none ls pool none
+
 module _ {C M : Type 0} (is_machine : C → M → Type 0) (stage : C → M → MachineView) (code : C) where
   pub woken-rest : (ls : List ℕ) (pool : Roster M) → All (IsAtRest is_machine stage code) pool.members
       → All (IsAtRest is_machine stage code) (woken_for ls pool).members
@@ -111,13 +116,20 @@ module _ {M : Type 0} (term : M → Tree) where
 
 -- Room that new members use up isn't left, whether it was made before or not
 
-roomy : ℕ → Roster Tree → Roster Tree
+roomy : {M : Type 0} → ℕ → Roster M → Roster M
 roomy room pool = record pool { room = room }
 
-woken-roomy : (ls : List ℕ) (room : ℕ) (pool : Roster Tree) → woken_for ls (roomy room pool) ≡ roomy room (woken_for ls pool)
+woken-roomy : {M : Type 0} (ls : List ℕ) (room : ℕ) (pool : Roster M) → woken_for ls (roomy room pool) ≡ roomy room (woken_for ls pool)
 unfolding roomy
 woken-roomy [] room pool = refl
 woken-roomy (l ∷ ls) room pool = woken-roomy ls room (woken l pool)
+
+-- so what wakes the same members of a pool does so once there is room
+pub woken-alike : {M : Type 0} (ks ls : List ℕ) (places : ℕ) (pool : Roster M) → woken_for ks pool ≡ woken_for ls pool
+    → woken_for ks (with_room places pool) ≡ woken_for ls (with_room places pool)
+unfolding roomy
+woken-alike ks ls places pool same =
+    let room = max pool.room places in woken-roomy ks room pool ∙ ap (roomy room) same ∙ sym (woken-roomy ls room pool)
 
 woken-room : (ls : List ℕ) (pool : Roster Tree) → (woken_for ls pool).room ≡ pool.room
 woken-room [] pool = refl

@@ -146,20 +146,24 @@ module _ {V : Type 0} where
     entry-there e None h owned = absurd (let clash : false ≡ true = owned in cc)
     entry-there e (Some cell) h owned = let x = has_entry seat cell e (is_owned seat cell owned) h in (x.0, x.1)
 
-    module _ (undos : List (Undo V)) (log : IsLogOf seat cells undos) (ls : List ℕ) (same : IsPermutation (places undos) ls) (rising : IsStrictlyIncreasing ls) where
-      to : (l : ℕ) → Contains ls l → Contains (owned_places seat cells) l
-      to l c =
-          let u = names undos l (Contains-permutation ls (places undos) l (IsPermutation-sym (places undos) ls same) c) in
+    module _ (undos : List (Undo V)) (log : IsLogOf seat cells undos) where
+      pub owned-named : (l : ℕ) → Contains (places undos) l → Contains (owned_places seat cells) l
+      owned-named l c =
+          let u = names undos l c in
           let there = owned-there l u.0 (slice_get cells l) refl (subst (OwnsAsLogged seat (slice_get cells l)) u.1 (log.owned l)) in
           contains-filter owns l (range_with_len 0 (length cells)) there.1 (range-contains (length cells) l there.0)
 
-      from : (l : ℕ) → Contains (owned_places seat cells) l → Contains ls l
-      from l c =
-          let passes : owns l ≡ true = All-contains (λ k. owns k ≡ true) (owned_places seat cells) l (filter_passes owns (range_with_len 0 (length cells))) c in
-          let u = entry-there (entry_at undos l) (slice_get cells l) (log.owned l) passes in
-          Contains-permutation (places undos) ls l same (named undos l u.0 u.1)
+      module _ (ls : List ℕ) (same : IsPermutation (places undos) ls) (rising : IsStrictlyIncreasing ls) where
+        to : (l : ℕ) → Contains ls l → Contains (owned_places seat cells) l
+        to l c = owned-named l (Contains-permutation ls (places undos) l (IsPermutation-sym (places undos) ls same) c)
 
-      pub owned-are : ls ≡ owned_places seat cells
-      owned-are =
-          same-rising ls (owned_places seat cells) (AllPairs-from_increasing ls rising)
-          (AllPairs-from_increasing (owned_places seat cells) (IsStrictlyIncreasing-filter owns (range_with_len 0 (length cells)) (range-rising (length cells)))) to from
+        from : (l : ℕ) → Contains (owned_places seat cells) l → Contains ls l
+        from l c =
+            let passes : owns l ≡ true = All-contains (λ k. owns k ≡ true) (owned_places seat cells) l (filter_passes owns (range_with_len 0 (length cells))) c in
+            let u = entry-there (entry_at undos l) (slice_get cells l) (log.owned l) passes in
+            Contains-permutation (places undos) ls l same (named undos l u.0 u.1)
+
+        pub owned-are : ls ≡ owned_places seat cells
+        owned-are =
+            same-rising ls (owned_places seat cells) (AllPairs-from_increasing ls rising)
+            (AllPairs-from_increasing (owned_places seat cells) (IsStrictlyIncreasing-filter owns (range_with_len 0 (length cells)) (range-rising (length cells)))) to from

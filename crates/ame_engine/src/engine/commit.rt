@@ -1,6 +1,6 @@
 //! Commits of seats.
 
-ghost use Rattle.std.specs.Prelude.{◌≡◌, ◌<◌, ◌↔◌, IfOk, OnOk, OnErr, Ok, Some, None};
+ghost use Rattle.std.specs.Prelude.{◌≡◌, ◌<◌, ◌↔◌, IfOk, OnOk, OnErr, Ok, Some, None, length, map};
 ghost use Rattle.ame_rows.specs.declared.notes.Bad.{Bad};
 ghost use Rattle.ame_rows.specs.Valid.{IsValid, IsFirstBad};
 ghost use Rattle.ame_rows.specs.MemoryView.{row_at};
@@ -11,7 +11,8 @@ ghost use Rattle.ame_protocol.specs.Event.Event.{Event, Find, Reverse};
 ghost use Rattle.ame_engine.specs.Seen.{parts_of};
 ghost use Rattle.ame_engine.specs.Makes.{Makes, MakesAt};
 ghost use Rattle.ame_engine.specs.AtWork.{IsOn};
-ghost use Rattle.ame_engine.specs.Committing.{IsCommitting, ends_at, leaves_at};
+ghost use Rattle.ame_protocol.specs.Engine.Events.{woken_for};
+ghost use Rattle.ame_engine.specs.Committing.{IsCommitting, owned_places, ends_at, leaves_at};
 
 use super::Engine;
 use super::turn::Setback;
@@ -19,7 +20,7 @@ use crate::answer::Noted;
 use ame_journal::EntryKind;
 use ame_machine::Runner;
 use ame_protocol::{Attempt, Task};
-use ame_term::NoMemory;
+use ame_term::{Loc, NoMemory};
 use members::{join_all, make_places, send_on, wake_all};
 
 pub(super) mod members;
@@ -28,6 +29,21 @@ impl<M: Runner> Engine<M>
 where
     M::Code: Drop,
 {
+    /// Returns the locations that a seat owns, in rising order, if a member may watch one. Otherwise returns none, which takes no memory:
+    /// a commit then wakes nobody.
+    fn to_wake(&self, seat: u32) -> Result<Vec<Loc>, NoMemory>
+        requires { seat < length self.now.memory.rows }
+        ensures { IfOk result (λ locs. woken_for (map (λ l. l.0) locs.items) self.now.pool
+            ≡ woken_for (owned_places seat (parts_of M.meaning self.now).memory.cells) self.now.pool) }
+    {
+        let alloc = *self.tasks.allocator();
+        if !self.pool.is_watched() {
+            return Ok(Vec::new(alloc));
+        }
+        let owned = self.memory.owned(alloc, seat)?;
+        Ok(owned)
+    }
+
     /// Commits a row whose reads are valid. All memory is taken before the first change.
     fn commit_valid(&mut self, seat: u32, attempt: Attempt, mut at: M) -> Result<(), NoMemory>
         requires on { IsOn M.meaning self.old seat at }
@@ -44,7 +60,7 @@ where
     {
         let alloc = *self.tasks.allocator();
         let number = attempt.tried.number;
-        let owned = self.memory.owned(alloc, seat)?;
+        let owned = self.to_wake(seat)?;
         let draft = self.ledger.draft(EntryKind::Ran, seat, number, &at)?;
         let next = make_places(&mut self.pool, self.next, at.spawns())?;
         self.memory.release_all(seat);

@@ -68,7 +68,8 @@ pub(crate) fn join_all<M: Runner>(
     }
 }
 
-/// Removes a member that has ended. A member that has come to `unprotected` goes on inside, with no more than its term.
+/// Removes a member that has ended, and leaves its machine to the pool for a later copy. A member that has come to `unprotected` goes
+/// on inside, with no more than its term.
 pub(crate) fn send_on<M: Runner>(pool: &mut Pool<M>, number: u64, mut at: M)
     requires { IsAt is_busy number pool.old }
     ensures ended { (code : M.Code) → (M.meaning.stage code at).want ≡ Some Wants.Done → pool.new ≡ removed number pool.old }
@@ -82,5 +83,6 @@ pub(crate) fn send_on<M: Runner>(pool: &mut Pool<M>, number: u64, mut at: M)
         pool.replace(number, at, true);
     } else {
         pool.remove(number);
+        pool.keep_spare(at);
     }
 }

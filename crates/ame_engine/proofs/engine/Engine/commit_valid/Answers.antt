@@ -24,7 +24,7 @@ join_all-requires-clause-room g c =
     let room = commit-room g.M.Runner.meaning
     _ c.args.self.now c.self.view_is c.self.invariant.whole c.args.seat c.args.at c.requires.on c.requires.commits.outside
     (g.met.M.Runner.sound c.args.self.now.code c.args.at c.requires.on.machine) c.requires.left c.args.attempt c.requires.task c.requires.valid
-    c.in_ok-owned.owned.items c.in_ok-owned.ensures.same c.in_ok-owned.ensures.rising
+    c.in_ok-owned.owned.items c.in_ok-owned.ensures
     c.spawns.result (c.spawns.ensures (arc_value c.self.inside.code)) c.make_places.new.pool c.wake_all.new.pool c.in_ok-next.ensures.places
     c.as_slice.result.now c.as_slice.ensures.value c.wake_all.ensures in
     let next = c.in_ok-next.ensures.number in omega (arith, room, next)
@@ -34,7 +34,7 @@ join_all-requires-clause-fresh g c =
     commit-fresh g.M.Runner.meaning
     _ c.args.self.now c.self.view_is c.self.invariant.whole c.args.seat c.args.at c.requires.on c.requires.commits.outside
     (g.met.M.Runner.sound c.args.self.now.code c.args.at c.requires.on.machine) c.requires.left c.args.attempt c.requires.task c.requires.valid
-    c.in_ok-owned.owned.items c.in_ok-owned.ensures.same c.in_ok-owned.ensures.rising
+    c.in_ok-owned.owned.items c.in_ok-owned.ensures
     c.spawns.result (c.spawns.ensures (arc_value c.self.inside.code)) c.make_places.new.pool c.wake_all.new.pool c.in_ok-next.ensures.places
     c.as_slice.result.now c.as_slice.ensures.value c.wake_all.ensures
 
@@ -43,7 +43,7 @@ send_on-requires g c =
     commit-busy g.M.Runner.meaning
     _ c.args.self.now c.self.view_is c.self.invariant.whole c.args.seat c.args.at c.requires.on c.requires.commits.outside
     (g.met.M.Runner.sound c.args.self.now.code c.args.at c.requires.on.machine) c.requires.left c.args.attempt c.requires.task c.requires.valid
-    c.in_ok-owned.owned.items c.in_ok-owned.ensures.same c.in_ok-owned.ensures.rising
+    c.in_ok-owned.owned.items c.in_ok-owned.ensures
     c.spawns.result (c.spawns.ensures (arc_value c.self.inside.code)) c.make_places.new.pool c.wake_all.new.pool c.in_ok-next.ensures.places
     c.as_slice.result.now c.as_slice.ensures.value c.wake_all.ensures
     c.join_all.new.pool (c.join_all.ensures.pool (arc_value c.self.inside.code))
@@ -59,7 +59,7 @@ invariant_of-self-2 g c =
       whole = whole-committed g.M.Runner.meaning
           _ c.args.self.now c.self.view_is c.self.invariant.whole c.args.seat c.args.at c.requires.on c.requires.commits.outside
           (g.met.M.Runner.sound c.args.self.now.code c.args.at c.requires.on.machine) c.requires.left c.args.attempt c.requires.task c.requires.valid
-          c.in_ok-owned.owned.items c.in_ok-owned.ensures.same c.in_ok-owned.ensures.rising
+          c.in_ok-owned.owned.items c.in_ok-owned.ensures
           c.spawns.result (c.spawns.ensures (arc_value c.self.inside.code)) c.make_places.new.pool c.wake_all.new.pool c.in_ok-next.ensures.places
           c.as_slice.result.now c.as_slice.ensures.value c.wake_all.ensures
           c.join_all.new.pool (c.join_all.ensures.pool (arc_value c.self.inside.code))
@@ -81,7 +81,7 @@ returns-clause-ended g c =
     makes-ended g.M.Runner.meaning
     _ c.args.self.now c.self.view_is c.self.invariant.whole c.args.seat c.args.at c.requires.on c.requires.commits.outside
     (g.met.M.Runner.sound c.args.self.now.code c.args.at c.requires.on.machine) c.requires.left c.args.attempt c.requires.task c.requires.valid
-    c.in_ok-owned.owned.items c.in_ok-owned.ensures.same c.in_ok-owned.ensures.rising
+    c.in_ok-owned.owned.items c.in_ok-owned.ensures
     c.spawns.result (c.spawns.ensures (arc_value c.self.inside.code)) c.make_places.new.pool c.wake_all.new.pool c.in_ok-next.ensures.places
     c.as_slice.result.now c.as_slice.ensures.value c.wake_all.ensures
     c.join_all.new.pool (c.join_all.ensures.pool (arc_value c.self.inside.code))
@@ -101,7 +101,7 @@ returns-clause-left g c =
     makes-left g.M.Runner.meaning
     _ c.args.self.now c.self.view_is c.self.invariant.whole c.args.seat c.args.at c.requires.on c.requires.commits.outside
     (g.met.M.Runner.sound c.args.self.now.code c.args.at c.requires.on.machine) c.requires.left c.args.attempt c.requires.task c.requires.valid
-    c.in_ok-owned.owned.items c.in_ok-owned.ensures.same c.in_ok-owned.ensures.rising
+    c.in_ok-owned.owned.items c.in_ok-owned.ensures
     c.spawns.result (c.spawns.ensures (arc_value c.self.inside.code)) c.make_places.new.pool c.wake_all.new.pool c.in_ok-next.ensures.places
     c.as_slice.result.now c.as_slice.ensures.value c.wake_all.ensures
     c.join_all.new.pool (c.join_all.ensures.pool (arc_value c.self.inside.code))

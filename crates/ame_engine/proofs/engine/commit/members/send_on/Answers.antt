@@ -1,4 +1,4 @@
-use Rattle.std.proofs.Common.{◌≡◌, Some}
+use Rattle.std.proofs.Common.{◌≡◌, Some, ◌∙◌}
 use Rattle.ame_machine.specs.declared.wants.Wants.TheVariants as wants
 use Rattle.ame_engine.proofs.CrewLemmas.{left-shown, left-rests, gone-rests}
 use Rattle.ame_engine.proofs.engine.commit.members.send_on.Goals as goal
@@ -17,4 +17,4 @@ returns-in-Some-Leave-clause-rests g c = λ code machine all.
 
 pub returns-in_default-clause-rests : goal.returns-in_default-clause-rests
 returns-in_default-clause-rests g c = λ code machine all.
-    gone-rests g.M.Runner.meaning.is_machine g.M.Runner.meaning.stage code c.args.number c.args.pool.now c.remove.new.self c.remove.ensures.pool all
+    gone-rests g.M.Runner.meaning.is_machine g.M.Runner.meaning.stage code c.args.number c.args.pool.now c.keep_spare.new.self (c.keep_spare.ensures ∙ c.remove.ensures.pool) all

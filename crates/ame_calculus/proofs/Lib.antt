@@ -14,3 +14,4 @@ pub mod CommuteLemmas
 pub mod SwappedJournal
 pub mod OfRunLemmas
 pub mod AlikeRuns
+pub mod OperatorLaws

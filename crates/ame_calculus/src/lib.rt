@@ -3,6 +3,7 @@
 
 mod dead;
 mod names;
+mod operators;
 mod order;
 mod weak;
 
@@ -11,5 +12,6 @@ pub use names::{
     names_of_locations_do_not_matter, renamed_certificates_replay, renamed_labels_run,
     runs_are_one_but_for_names,
 };
+pub use operators::operators_compute;
 pub use order::{entries_are_runs, independent_entries_commute};
 pub use weak::{strong_runs_are_weak, weak_runs_show_what_strong_runs_show};

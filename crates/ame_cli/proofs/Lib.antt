@@ -7,3 +7,4 @@ pub mod ClapTop
 pub mod GrammarLemmas
 pub mod MatchLemmas
 pub mod SpellingLemmas
+pub mod RangeLemmas

@@ -1,10 +1,11 @@
 -- Number words, as std reads them.
-use Rattle.std.proofs.Common.{◌≡◌, ◌≢◌, ℕ, ◌+◌, ◌*◌, ◌-◌, ◌<◌, ◌≤◌, ◌^◌, Bool, true, false, cond, List, [], ◌∷◌, Option, Some, None, length, refl, sym, ap, ◌∙◌, subst, arith, rules, true≢false, leb-true}
-use Rattle.std.specs.Prelude.{◌&&◌, nat_le}
+use Rattle.std.proofs.Common.{◌≡◌, ◌≢◌, ℕ, ◌+◌, ◌*◌, ◌-◌, ◌<◌, ◌≤◌, ◌^◌, Bool, true, false, cond, List, [], ◌∷◌, Option, Some, None, length, refl, sym, ap, ◌∙◌, subst, arith, rules, true≢false, leb-true, le-leb}
+use Rattle.std.specs.Prelude.{◌&&◌, nat_le, decimal}
 use Rattle.std.specs.List.{list_all, fold}
 use Rattle.std.specs.Char.{is_ascii_digit}
 use Rattle.std.specs.Str.{all_ascii_digits}
 use Rattle.std.specs.Str.Parse.{IsNumeral, digits_value, without_leading_plus}
+use Rattle.std.proofs.lemmas.Fmt.{decimal_is_IsNumeral, length-decimal-le}
 use Rattle.std.proofs.lemmas.Str.Parse.{IsNumeralModel, numerals_by_fold, tells_all_ascii_digits, without_leading_plus_none}
 use Rattle.ame_cli.specs.declared.bounds.Bounds.{Bounds}
 use Rattle.ame_cli.specs.Items.{Word}
@@ -48,3 +49,17 @@ none_within word bounds digits small none = go (is_number word && (nat_le bounds
         let below : digits_value 10 (without_leading_plus word) < 2 ^ 32 = subst (λ (t : Word). digits_value 10 t < 2 ^ 32) (sym is.1) (omega arith) in
         absurd (none (is.0, below))
     go false e = refl
+
+pub all_true : (a b c : Bool) → a ≡ true → b ≡ true → c ≡ true → (a && (b && c)) ≡ true
+all_true true true true p q r = refl
+all_true true true false p q r = r
+all_true true false c p q r = q
+all_true false b c p q r = p
+
+-- decimal digits are a number word, unless there are too many
+pub decimal_is_number : (n : ℕ) → n < 10 ^ 10 → is_number (decimal n) ≡ true
+decimal_is_number n below =
+    let wide : n < 2 ^ 64 = omega arith in
+    let is = (decimal_is_IsNumeral n wide).0 in
+    all_true _ _ _ (le-leb 1 (length (decimal n)) is.0) (le-leb (length (decimal n)) 10 (length-decimal-le 10 n (omega arith) below wide))
+    (same_digits (decimal n) ∙ own.from (decimal n) is.1)

@@ -16,7 +16,7 @@ mod verb;
 pub use bounds::Bounds;
 pub use command::{CliFail, Command, Options};
 pub use item::Item;
-pub use laws::spells_one_command;
+pub use laws::{commands_in_range_are_spelled, spells_one_command};
 pub use limits::{
     DIGIT_LIMIT, SEED_LIMIT, SIZE_LIMIT, SLICE_LIMIT, TURN_LIMIT, WORD_LIMIT, WORKER_LIMIT,
 };

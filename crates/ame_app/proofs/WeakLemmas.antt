@@ -656,6 +656,8 @@ drawn-as program seed limit labels tries turns before after stop weakened (inr s
       (subst (λ (ts : List Try). IsCounted stop (length labels + turns_of_tries ts) weakened.turns) (sym same.tries_are)
       (subst (IsCounted stop (length labels + turns_of_tries tries)) (sym same.turns_are)
       (counted-of program limit labels tries turns before after stop ended tells)));
+  notes = same.entries_are ∙ ap (λ (ls : List Label). journal_of_run ls tries stop) (sym same.labels_are)
+      ∙ ap (λ (ts : List Try). journal_of_run weakened.labels.items ts stop) (sym same.tries_are);
 }
   where
     ended : stop ≢ WeakStop.NoMemory

@@ -20,7 +20,7 @@ use Rattle.ame_weak.specs.declared.tries.Try.{Try}
 use Rattle.ame_runner.specs.Tall.{IsTallIn}
 use Rattle.ame_runner.specs.Within.{AreTriedWithin, IsReachedWithin}
 use Rattle.ame_runner.specs.Run.{turns_of_tries}
-use Rattle.ame_runner.specs.Ended.{IsCounted}
+use Rattle.ame_runner.specs.Ended.{IsCounted, journal_of_run}
 use Rattle.ame_runner.specs.Drawn.{IsDrawn}
 use Rattle.ame_runner.specs.declared.stop.WeakStop.{WeakStop}
 use Rattle.ame_cli.specs.Items.{default_of}
@@ -65,19 +65,22 @@ stop_told (WeakStop.DeviceFault device) = Stop.DeviceFault device
 stop_told (WeakStop.Tall entry) = Stop.Tall entry.number
 stop_told WeakStop.NoMemory = Stop.NoMemory
 
--- labels, tries, turns and stop are those of a run
+-- labels, tries, turns and stop are those of a run, and the entries are their journal
 pub record IsEndOf (labels : List Label) (tries : List Try) (turns : ℕ) (stop : WeakStop) (weak : WeakEnd) : Type 0 where
   pub labels_are : weak.labels.items ≡ labels
   pub tries_are : weak.tries.items ≡ tries
   pub turns_are : weak.turns ≡ turns
   pub stop_is : weak.stop ≡ stop_told stop
+  pub entries_are : weak.journal.entries ≡ journal_of_run labels tries stop
 
--- they are those that the numbers of the seed draw from the program, and the turns are counted from labels and tries
+-- they are those that the numbers of the seed draw from the program, the turns are counted from labels and tries, and the note at the end
+-- of the journal is that of the stop
 pub record IsDrawnAs (program : Tree) (seed limit : ℕ) (weak : WeakEnd) : Type 0 where
   pub stop : WeakStop
   pub stop_is : weak.stop ≡ stop_told stop
   pub drawn : IsDrawn program limit seed weak.labels.items weak.tries.items weak.turns stop
   pub counted : IsCounted stop (length weak.labels.items + turns_of_tries weak.tries.items) weak.turns
+  pub notes : weak.journal.entries ≡ journal_of_run weak.labels.items weak.tries.items stop
 
 -- The run was a weak one, drawn by the numbers of the seed, unless it was out of memory. Its journal is that of its labels and tries, and has at
 -- least a third of its turns as steps and entries.

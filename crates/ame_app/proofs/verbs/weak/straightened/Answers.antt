@@ -34,3 +34,16 @@ returns-clause-tells c = λ before after count tells.
     (told.1 ∙ ap (λ (ls : List Label). straight_with 0 c.deref-3.result.now outset ls) c.deref-2.ensures.value
     ∙ ap (λ (ts : List Try). straight_with 0 ts outset labels) c.deref-3.ensures.value))
     refl c.in_ok-stop.ensures.stop c.in_ok-stop.ensures.certificates before after count tells
+
+pub returns-clause-same : goal.returns-clause-same
+returns-clause-same c =
+    let told = subst (λ (a : Straight). IsStraightened (tree_of c.accepted-accepted.result.now.program.term) c.deref-2.result.now c.deref-3.result.now a) c.in-Journal.is c.in_ok-journal.ensures.answer in
+    record {
+      labels_are = refl;
+      tries_are = refl;
+      turns_are = refl;
+      stop_is = c.in_ok-stop.ensures.stop;
+      entries_are = c.in_ok-stop.ensures.entries ∙ ap (λ (es : List Entry). es ++ notes_of_stop c.args.run.stop)
+          (told.1 ∙ ap (λ (ls : List Label). straight_with 0 c.deref-3.result.now outset ls) c.deref-2.ensures.value
+          ∙ ap (λ (ts : List Try). straight_with 0 ts outset c.args.run.labels.items) c.deref-3.ensures.value);
+    }

@@ -97,7 +97,6 @@ reads-alone : (command : Alone) → reads_source (command_of command) ≡ true
 reads-alone (Alone.Sim seed options) = refl
 reads-alone (Alone.Replay options) = refl
 reads-alone (Alone.Weak seed turns) = refl
-reads-alone Alone.Check = refl
 
 -- by bytes in memory
 module _ (alone : Alone) (bytes : List ℕ) (devices : ℕ) (call : Call) (of : IsCallOf call (command_of alone) bytes devices) where

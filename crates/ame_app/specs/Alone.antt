@@ -7,4 +7,3 @@ abbrev pub command_of : Alone → Command
 command_of (Alone.Sim seed options) = Command.Sim seed options
 command_of (Alone.Replay options) = Command.Replay options
 command_of (Alone.Weak seed turns) = Command.Weak seed turns
-command_of Alone.Check = Command.Check

@@ -35,8 +35,6 @@ pub enum Alone {
     Replay(Options),
     /// Runs a program under the weak semantics by the choices of a seed, with a limit of turns.
     Weak(u32, u32),
-    /// Judges a journal by the program after it.
-    Check,
 }
 
 impl Alone {
@@ -48,7 +46,6 @@ impl Alone {
             Alone::Sim(seed, options) => Command::Sim(seed, options),
             Alone::Replay(options) => Command::Replay(options),
             Alone::Weak(seed, turns) => Command::Weak(seed, turns),
-            Alone::Check => Command::Check,
         }
     }
 
@@ -62,7 +59,6 @@ impl Alone {
             Alone::Weak(seed, turns) => {
                 seed <= SEED_LIMIT && is_within(Item::Turns.bounds(), turns)
             }
-            Alone::Check => true,
         }
     }
 }

@@ -23,7 +23,7 @@ place_in (TextFault.Syntactic (ParseFault.TooNested place)) = place
 place_in (TextFault.Syntactic (ParseFault.Trailing place)) = place
 place_in (TextFault.Syntactic ParseFault.NoMemory) = 0
 
--- the last number in the line of a status; of a device that failed its own
+-- the last number in the line of a status, but of those of `resume`; of a device that failed its own
 abbrev pub place_of : Status → ℕ
 place_of (Status.Blocked n) = n
 place_of (Status.DeviceFault device) = device
@@ -31,8 +31,6 @@ place_of (Status.Tall n) = n
 place_of (Status.Valid n) = n
 place_of (Status.Invalid n) = n
 place_of (Status.LongJournal n) = n
-place_of (Status.FarJournal n) = n
-place_of (Status.TallJournal n) = n
 place_of (Status.BadJournal n) = n
 place_of (Status.Text fault) = place_in fault
 place_of (Status.Types fault) = fault.place

@@ -79,10 +79,7 @@ pub extern "C" fn ame_sim(
         (texts lines.new certificate.new schedule.new) result whole.new }
 {
     let made = made_by(alloc, Alone::Sim(seed, limits.options()), text);
-    hand_out(made.lines.as_bytes(), lines, &mut whole.lines);
-    hand_out(&made.certificate, certificate, &mut whole.certificate);
-    hand_out(&made.schedule, schedule, &mut whole.schedule);
-    tell(&made.told, &mut whole.number)
+    made.hand_out(lines, certificate, schedule, whole)
 }
 
 /// Runs a program again as `ame replay` does: the bytes are a schedule with its program, as `ame_sim` writes them. Hands out the same as
@@ -101,10 +98,7 @@ pub extern "C" fn ame_replay(
         (texts lines.new certificate.new schedule.new) result whole.new }
 {
     let made = made_by(alloc, Alone::Replay(limits.options()), scheduled);
-    hand_out(made.lines.as_bytes(), lines, &mut whole.lines);
-    hand_out(&made.certificate, certificate, &mut whole.certificate);
-    hand_out(&made.schedule, schedule, &mut whole.schedule);
-    tell(&made.told, &mut whole.number)
+    made.hand_out(lines, certificate, schedule, whole)
 }
 
 /// Runs a program as `ame weak` does, with a limit of turns. Hands out lines and certificate as `ame_sim` does; there is no schedule. Keeps

@@ -1,13 +1,16 @@
 //! Runs that are made in memory.
 
-ghost use Rattle.std.specs.Prelude.{◌≡◌, IfErr, IfOk, option_map, vec_len};
+ghost use Rattle.std.specs.Prelude.{◌≡◌, ℕ, IfErr, IfOk, List, option_map, vec_len};
 ghost use Rattle.ame_app.specs.Reported.{run_view};
+ghost use Rattle.ame_app.specs.declared.alone.Alone.{Alone as Asked};
 ghost use Rattle.ame_c.specs.Made as spec;
-ghost use Rattle.ame_c.specs.Made.{Certifies, IsMade, IsUnmade, Schedules, TellsMade, texts};
+ghost use Rattle.ame_c.specs.Made.{AnswersRun, Certifies, IsMade, IsUnmade, Schedules, TellsMade, texts};
 ghost use Rattle.ame_c.specs.Out.{bytes_in};
 
 use crate::lines::Lines;
+use crate::out::{hand_out, tell};
 use crate::page::Page;
+use crate::whole::Whole;
 use ame_app::{Alone, Extra, Left, Ran, Status, run_alone_over, standard_devices};
 use ame_term::NoMemory;
 use ame_views::{input_of, journal_of};
@@ -20,6 +23,26 @@ pub(crate) struct Made {
     pub(crate) lines: Lines,
     pub(crate) certificate: Vec<u8>,
     pub(crate) schedule: Vec<u8>,
+}
+
+impl Made {
+    /// Writes lines, certificate and schedule, each as far as there is room, and how long each is. Returns the number of the status.
+    pub(crate) fn hand_out(
+        &self,
+        lines: &mut [u8],
+        certificate: &mut [u8],
+        schedule: &mut [u8],
+        whole: &mut Whole,
+    ) -> u8
+        ensures { (command : Asked) (bytes : List ℕ)
+            → TellsMade command bytes self.now.told (texts (bytes_in self.now.lines) self.now.certificate.items self.now.schedule.items)
+            → AnswersRun command bytes (texts lines.old certificate.old schedule.old) (texts lines.new certificate.new schedule.new) result whole.new }
+    {
+        hand_out(self.lines.as_bytes(), lines, &mut whole.lines);
+        hand_out(&self.certificate, certificate, &mut whole.certificate);
+        hand_out(&self.schedule, schedule, &mut whole.schedule);
+        tell(&self.told, &mut whole.number)
+    }
 }
 
 /// Does a command with these bytes. If that can't be done, there is only the line that says why.

@@ -23,7 +23,7 @@ fn place_in(fault: &TextFault) -> u32
     }
 }
 
-/// Returns the last number in the line of a status, or of a device that failed its own; 0 if there is none.
+/// Returns the last number in the line of a status, or of a device that failed its own; 0 if there is none. No call here resumes a run.
 pub(crate) fn place_of(told: &Status) -> u64
     ensures { result ≡ spec.place_of told.now }
 {
@@ -32,9 +32,7 @@ pub(crate) fn place_of(told: &Status) -> u64
         | Status::Tall(number)
         | Status::Valid(number)
         | Status::Invalid(number)
-        | Status::LongJournal(number)
-        | Status::FarJournal(number)
-        | Status::TallJournal(number) => *number,
+        | Status::LongJournal(number) => *number,
         Status::DeviceFault(device) => u64::from(*device),
         Status::BadJournal(line) => u64::from(*line),
         Status::Text(fault) => u64::from(place_in(fault)),

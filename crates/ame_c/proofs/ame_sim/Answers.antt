@@ -1,20 +1,12 @@
-use Rattle.std.proofs.Common.{List, ℕ, subst}
+use Rattle.std.proofs.Common.{subst}
 use Rattle.ame_cli.specs.declared.command.Options.{Options}
 use Rattle.ame_app.specs.declared.alone.Alone.{Alone}
-use Rattle.ame_c.specs.Made.{TellsMade, texts}
-use Rattle.ame_c.specs.Out.{bytes_in, IsHandedOut}
+use Rattle.ame_c.specs.Made.{AnswersRun, TellsMade, texts}
+use Rattle.ame_c.specs.Out.{bytes_in}
 use Rattle.ame_c.proofs.ame_sim.Goals as goal
 
 pub returns : goal.returns
 returns c =
     let made = c.made_by-made.result in
     let all = texts (bytes_in made.lines) made.certificate.items made.schedule.items in
-    record {
-      told = made.told;
-      made = all;
-      tells = subst (λ (o : Options). TellsMade (Alone.Sim c.args.seed o) c.args.text.now made.told all) c.options.ensures c.made_by-made.ensures;
-      is_told = c.tell.ensures;
-      lines = subst (λ (t : List ℕ). IsHandedOut t c.args.lines.now c.hand_out.new.room c.hand_out.new.whole) c.as_bytes.ensures c.hand_out.ensures;
-      certificate = subst (λ (t : List ℕ). IsHandedOut t c.args.certificate.now c.hand_out-2.new.room c.hand_out-2.new.whole) c.deref.ensures.value c.hand_out-2.ensures;
-      schedule = subst (λ (t : List ℕ). IsHandedOut t c.args.schedule.now c.hand_out-3.new.room c.hand_out-3.new.whole) c.deref-2.ensures.value c.hand_out-3.ensures;
-    }
+    c.hand_out.ensures _ c.args.text.now (subst (λ (o : Options). TellsMade (Alone.Sim c.args.seed o) c.args.text.now made.told all) c.options.ensures c.made_by-made.ensures)

@@ -1,9 +1,8 @@
 //! The program: its words are a command, standard input is the text of a program, standard output its lines.
 #![tactic(auto)]
 
-use ame_app::{exit_of, process_words};
 use ame_io::{StdSink, StdSource};
-use ame_one_run::run_process;
+use ame_one_run::{exit_of, process_words, run_process};
 use std::io;
 use std::process::ExitCode;
 

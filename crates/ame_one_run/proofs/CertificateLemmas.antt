@@ -26,8 +26,6 @@ use Rattle.ame_weak.specs.Weak.{Weak}
 use Rattle.ame_weak.specs.Straight.{outset}
 use Rattle.ame_weak.specs.Tries.{straight_with}
 use Rattle.ame_weak.specs.declared.tries.Try.{Try}
-use Rattle.ame_runner.specs.Tall.{IsTallIn}
-use Rattle.ame_runner.specs.Within.{IsReachedWithin}
 use Rattle.ame_app.specs.declared.left.Left.{Left}
 use Rattle.ame_app.specs.declared.parts.Front.{Front}
 use Rattle.ame_app.specs.Answered.{IsPromised}
@@ -100,7 +98,7 @@ engine-base _ front program base made begun = absurd made
 -- The journal of a weak run
 
 -- the note at its end is one of a value nested too deeply
-tall-note : (w : Weak) (entry : Entry) → IsTallIn w.state entry × IsReachedWithin w entry → IsTallNote w entry
+tall-note : (w : Weak) (entry : Entry) → IsNoteAtEnd (Some entry) w → IsTallNote w entry
 tall-note w entry note = record {
   kind = ap (λ (e : Entry). e.kind) note.0.note;
   answer = ap (λ (e : Entry). e.answer) note.0.note;

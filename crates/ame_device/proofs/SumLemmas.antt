@@ -2,8 +2,8 @@
 use Rattle.std.proofs.Common.{◌≡◌, ℤ, pos, List, [], ◌∷◌, ◌++◌, refl, sym, ap, ◌∙◌}
 use Rattle.std.specs.Int.{w64, int_wrapping_add}
 use Rattle.ame_device.specs.declared.told.Heard.{Heard}
-use Rattle.ame_device.specs.Calls.{answered}
-use Rattle.ame_device.specs.InMemory.{arguments, wrapping_sum_from, wrapping_sum}
+use Rattle.ame_device.specs.Calls.{answered, arguments}
+use Rattle.ame_device.specs.Sums.{wrapping_sum_from, wrapping_sum}
 
 sum-last : (sum : ℤ) (ns : List ℤ) (n : ℤ) → wrapping_sum_from sum (ns ++ n ∷ []) ≡ int_wrapping_add w64 (wrapping_sum_from sum ns) n
 sum-last sum [] n = refl

@@ -1,2 +1,4 @@
 pub mod Calls
 pub mod InMemory
+pub mod Kinds
+pub mod Sums

@@ -1,7 +1,8 @@
 //! A device that adds.
 ghost use Rattle.std.specs.Prelude.{◌≡◌, ◌≢◌, [], ◌∷◌, ◌++◌, Some, Err, IfOk};
-ghost use Rattle.ame_device.specs.Calls.{AnswersCall, told};
-ghost use Rattle.ame_device.specs.InMemory.{arguments, wrapping_sum};
+ghost use Rattle.ame_device.specs.Calls.{AnswersCall, arguments, told};
+ghost use Rattle.ame_device.specs.Sums.{wrapping_sum};
+ghost use Rattle.ame_device.specs.declared.told.DeviceKind.{DeviceKind};
 
 use crate::device::Device;
 use crate::fault::DeviceFail;
@@ -20,7 +21,9 @@ pub struct Adder {
 
 impl Model for Adder {
     ghost use Rattle.std.specs.Prelude.{◌≡◌};
-    ghost use Rattle.ame_device.specs.InMemory.{Calls, arguments, wrapping_sum};
+    ghost use Rattle.ame_device.specs.Calls.{arguments};
+    ghost use Rattle.ame_device.specs.InMemory.{Calls};
+    ghost use Rattle.ame_device.specs.Sums.{wrapping_sum};
 
     ghost Value = { Calls };
 
@@ -42,12 +45,10 @@ impl Adder {
 }
 
 impl Device for Adder {
-    ghost device_heard = { λ device. Some device.heard };
-
-    ghost device_faults = { λ device. device.faults };
+    ghost device_told = { λ device. told DeviceKind.Adder (Some device.heard) device.faults };
 
     fn call(&mut self, argument: i64) -> Result<i64, DeviceFail>
-        ensures answers { AnswersCall (told (Some self.old.heard) self.old.faults) argument result (told (Some self.new.heard) self.new.faults) }
+        ensures answers { AnswersCall (told DeviceKind.Adder (Some self.old.heard) self.old.faults) argument result (told DeviceKind.Adder (Some self.new.heard) self.new.faults) }
         ensures answer { IfOk result (λ answer. answer ≡ wrapping_sum (arguments self.old.heard ++ argument ∷ [])) }
         ensures never_fails { result ≢ Err DeviceFail.Failed }
     {

@@ -4,9 +4,7 @@ use crate::fault::DeviceFail;
 use crate::told::Heard;
 
 impl Device for Box<dyn Device + Send> {
-    ghost device_heard = { λ b. (Device-box b).device_heard b.value };
-
-    ghost device_faults = { λ b. (Device-box b).device_faults b.value };
+    ghost device_told = { λ b. (Device-box b).device_told b.value };
 
     fn call(&mut self, argument: i64) -> Result<i64, DeviceFail> {
         (**self).call(argument)

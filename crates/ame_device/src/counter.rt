@@ -1,6 +1,7 @@
 //! A device that counts.
 ghost use Rattle.std.specs.Prelude.{◌≡◌, ◌≢◌, ◌+◌, [], Some, Err, pos, length, IfOk};
 ghost use Rattle.ame_device.specs.Calls.{AnswersCall, told};
+ghost use Rattle.ame_device.specs.declared.told.DeviceKind.{DeviceKind};
 
 use crate::device::Device;
 use crate::fault::DeviceFail;
@@ -35,12 +36,10 @@ impl Counter {
 }
 
 impl Device for Counter {
-    ghost device_heard = { λ device. Some device.heard };
-
-    ghost device_faults = { λ device. device.faults };
+    ghost device_told = { λ device. told DeviceKind.Counter (Some device.heard) device.faults };
 
     fn call(&mut self, argument: i64) -> Result<i64, DeviceFail>
-        ensures answers { AnswersCall (told (Some self.old.heard) self.old.faults) argument result (told (Some self.new.heard) self.new.faults) }
+        ensures answers { AnswersCall (told DeviceKind.Counter (Some self.old.heard) self.old.faults) argument result (told DeviceKind.Counter (Some self.new.heard) self.new.faults) }
         ensures answer { IfOk result (λ answer. answer ≡ pos (length self.old.heard + 1)) }
         ensures never_fails { result ≢ Err DeviceFail.Failed }
     {

@@ -18,4 +18,4 @@ pub use fault::DeviceFail;
 pub use laws::want_of_memory_leaves_the_list;
 pub use list::call_device;
 pub use log::Log;
-pub use told::{Heard, Told};
+pub use told::{DeviceKind, Heard, Told};

@@ -12,7 +12,7 @@ pub fn call_device<D: Device>(
     argument: i64,
 ) -> Result<i64, DeviceFail>
     requires { number < vec_len devices.old }
-    ensures { CallsDevice D.device_heard D.device_faults devices.old.items number argument result devices.new.items }
+    ensures { CallsDevice D.device_told devices.old.items number argument result devices.new.items }
 {
     devices[number].call(argument)
 }

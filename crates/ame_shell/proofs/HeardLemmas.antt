@@ -1,19 +1,21 @@
 -- The calls that devices have heard, as the journal grows.
 use Rattle.std.proofs.Common.{◌≡◌, ℕ, ◌==◌, ◌≤◌, Bool, true, false, List, [], ◌∷◌, ◌++◌, Option, Some, None, Ok, append_assoc, append-nil, refl, sym, ap, ◌∙◌, subst, arith, length-append}
-use Rattle.std.specs.Prelude.{ℤ, length, drop, if◌then◌else◌}
+use Rattle.std.specs.Prelude.{ℤ, length, drop, if◌then◌else◌, IfSome}
 use Rattle.std.proofs.lemmas.Bool.{eqb-true, eqb-false}
 use Rattle.std.proofs.lemmas.List.{map-append, drop_all, drop-append-le}
 use Rattle.ame_term.specs.Tree.{Tree}
+use Rattle.ame_device.specs.declared.told.DeviceKind.{DeviceKind}
 use Rattle.ame_device.specs.declared.told.Heard.{Heard}
 use Rattle.ame_device.specs.declared.told.Told.{Told}
 use Rattle.ame_device.specs.Calls.{answered, one_more, CallsOne}
+use Rattle.ame_device.specs.Kinds.{AreAnswersOf, AnswersByKind}
 use Rattle.ame_journal.specs.declared.entry.Entry.{Entry}
 use Rattle.ame_journal.specs.Replayed.{Replayed, begun_at}
 use Rattle.ame_journal.specs.Replay.{replay_entry}
 use Rattle.ame_journal.specs.Calls.{of_next, last_call, device_calls_from, device_calls}
 use Rattle.ame_shell.specs.Ends.{told_at}
 use Rattle.ame_shell.specs.Heard.{answered_all, and_more, added_calls, HaveHeardSince}
-use Rattle.ame_shell.proofs.ToldLemmas.{call-count, called-heard, called-else}
+use Rattle.ame_shell.proofs.ToldLemmas.{call-count, called-heard, called-right, called-kind, called-else}
 
 -- nothing more
 none-more : (heard : Option (List Heard)) → and_more heard [] ≡ heard
@@ -27,6 +29,12 @@ one-behind None calls argument answer = refl
 one-behind (Some xs) calls argument answer =
     ap (λ (ys : List Heard). Some ys) (append_assoc xs (answered_all calls) (answered argument answer ∷ []))
     ∙ ap (λ (ys : List Heard). Some (xs ++ ys)) (sym (map-append (λ (call : ℤ × ℤ). answered call.0 call.1) calls ((argument, answer) ∷ [])))
+
+-- as many calls of the same kind are answered alike
+right-too : (now after : Told) → after.heard ≡ now.heard → after.kind ≡ now.kind → AnswersByKind now → AnswersByKind after
+right-too now after heard kind right =
+    subst (λ (o : Option (List Heard)). IfSome o (λ calls. AreAnswersOf after.kind calls)) (sym heard)
+    (subst (λ (d : DeviceKind). IfSome now.heard (λ calls. AreAnswersOf d calls)) (sym kind) right)
 
 -- Calls after a base
 
@@ -73,6 +81,8 @@ module _ (program : Tree) (base : List Entry) (opened : List Told) where
   pub heard-nothing : Hears [] opened
   heard-nothing = record {
     count = refl;
+    kinds = λ k. refl;
+    answers = λ k right. right;
     heard = λ k.
         sym (ap (λ (calls : List (ℤ × ℤ)). and_more (told_at opened k).heard (answered_all calls)) (none-added k program base)
         ∙ none-more (told_at opened k).heard);
@@ -82,13 +92,21 @@ module _ (program : Tree) (base : List Entry) (opened : List Told) where
   pub heard-silent : (old new : List Entry) (now : List Told) → ((k : ℕ) → calls_of k new ≡ calls_of k old) → Hears old now → Hears new now
   heard-silent old new now same h = record {
     count = h.count;
+    kinds = h.kinds;
+    answers = h.answers;
     heard = λ k. h.heard k ∙ ap (λ (calls : List (ℤ × ℤ)). and_more (told_at opened k).heard (answered_all (drop (length (device_calls k program base)) calls))) (sym (same k));
   }
 
   -- a device failed
   pub heard-failed : (entries : List Entry) (now after : List Told) → length after ≡ length now
-      → ((k : ℕ) → (told_at after k).heard ≡ (told_at now k).heard) → Hears entries now → Hears entries after
-  heard-failed entries now after count same h = record { count = count ∙ h.count; heard = λ k. same k ∙ h.heard k }
+      → ((k : ℕ) → (told_at after k).heard ≡ (told_at now k).heard) → ((k : ℕ) → (told_at after k).kind ≡ (told_at now k).kind)
+      → Hears entries now → Hears entries after
+  heard-failed entries now after count same kind h = record {
+    count = count ∙ h.count;
+    kinds = λ k. kind k ∙ h.kinds k;
+    answers = λ k right. right-too (told_at now k) (told_at after k) (same k) (kind k) (h.answers k right);
+    heard = λ k. same k ∙ h.heard k;
+  }
 
   -- a device answered, and the journal has it
   module _ (old new : List Entry) (now after : List Told) (device : ℕ) (argument answer : ℤ) (called : CallsOne now device argument (Ok answer) after)
@@ -116,5 +134,17 @@ module _ (program : Tree) (base : List Entry) (opened : List Told) where
         ap (λ (t : Told). t.heard) (called-else now after device argument answer called k apart) ∙ h.heard k
         ∙ ap (λ (calls : List (ℤ × ℤ)). and_more (told_at opened k).heard (answered_all calls)) (sym (calls-else k e))
 
+    right-by : (k : ℕ) (b : Bool) → (device == k) ≡ b → AnswersByKind (told_at now k) → AnswersByKind (told_at after k)
+    right-by k true e =
+        subst (λ (j : ℕ). AnswersByKind (told_at now j) → AnswersByKind (told_at after j)) (eqb-true device k e)
+        (called-right now after device argument answer called)
+    right-by k false e =
+        subst AnswersByKind (sym (called-else now after device argument answer called k (λ same. eqb-false device k e (sym same))))
+
     pub heard-call : Hears new after
-    heard-call = record { count = call-count now after device argument answer called ∙ h.count; heard = λ k. heard-by k (device == k) refl }
+    heard-call = record {
+      count = call-count now after device argument answer called ∙ h.count;
+      kinds = λ k. called-kind now after device argument answer called k ∙ h.kinds k;
+      answers = λ k right. right-by k (device == k) refl (h.answers k right);
+      heard = λ k. heard-by k (device == k) refl;
+    }

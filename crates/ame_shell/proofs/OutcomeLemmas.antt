@@ -46,7 +46,7 @@ use Rattle.ame_shell.specs.Over.{AreOfSeats}
 use Rattle.ame_shell.specs.Shell.{Opening, IsOpenedSo}
 use Rattle.ame_shell.specs.Turned.{is_to_flush}
 use Rattle.ame_shell.proofs.HeardLemmas.{heard-silent, heard-failed}
-use Rattle.ame_shell.proofs.ToldLemmas.{fail-count, failed-heard, failed-one, called-faults}
+use Rattle.ame_shell.proofs.ToldLemmas.{fail-count, failed-heard, failed-kind, failed-one, called-faults}
 use Rattle.ame_shell.proofs.StopLemmas.{is_quiet, GoesQuietly, stops-by, quiet-failed}
 use Rattle.ame_shell.proofs.VisitLemmas.{visit-heard}
 use Rattle.ame_machine.specs.Meaning.{Meaning}
@@ -346,7 +346,7 @@ module _ {C V M : Type 0} (meaning : Meaning C V M) where
             heard =
                 heard-adds after m.code base (Adds.nothing entries)
                 (heard-failed (meaning.program old.code) old.base opening.ends.told old.entries before after (fail-count before after device h.argument h.fails)
-                (failed-heard before after device h.argument h.fails) o.heard);
+                (failed-heard before after device h.argument h.fails) (failed-kind before after device h.argument h.fails) o.heard);
             failed =
                 subst (λ (x : Option Stop). HaveFailed x opening.ends.told after) (sym m.stop)
                 (one-then opening.ends.told before after device (subst (λ (x : Option Stop). HaveFailed x opening.ends.told before) going o.failed)

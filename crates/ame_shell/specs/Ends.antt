@@ -1,6 +1,6 @@
 -- The ends of a run: its sink and its devices.
 use Rattle.std.specs.Prelude.{ℕ, List, Option, None, slice_index_or}
-use Rattle.ame_device.specs.declared.told.Heard.{Heard}
+use Rattle.ame_device.specs.declared.told.DeviceKind.{DeviceKind}
 use Rattle.ame_device.specs.declared.told.Told.{Told}
 use Rattle.ame_device.specs.Calls.{told, all_told}
 
@@ -12,13 +12,13 @@ pub record Ends : Type 0 where
 
 -- what a sink and a list of devices show
 abbrev pub ends_of :
-    {K D : Type 0} → (K → Option (List ℕ)) → (K → ℕ) → (D → Option (List Heard)) → (D → ℕ) → K → List D → Ends
-ends_of written faults heard device_faults sink devices =
-    record { written = written sink; write_faults = faults sink; told = all_told heard device_faults devices }
+    {K D : Type 0} → (K → Option (List ℕ)) → (K → ℕ) → (D → Told) → K → List D → Ends
+ends_of written faults tell sink devices =
+    record { written = written sink; write_faults = faults sink; told = all_told tell devices }
 
 -- what device k of a list shows; nothing if there is none
 abbrev pub told_at : List Told → ℕ → Told
-told_at devices k = slice_index_or devices k (told None 0)
+told_at devices k = slice_index_or devices k (told DeviceKind.Other None 0)
 
 -- A sink and devices as they are, and what they show.
 pub record IoView (K D : Type 0) : Type 0 where
@@ -28,6 +28,6 @@ pub record IoView (K D : Type 0) : Type 0 where
 
 -- a sink and devices, with what they show
 abbrev pub io_of :
-    {K D : Type 0} → (K → Option (List ℕ)) → (K → ℕ) → (D → Option (List Heard)) → (D → ℕ) → K → List D → IoView K D
-io_of written faults heard device_faults sink devices =
-    record { sink = sink; devices = devices; ends = ends_of written faults heard device_faults sink devices }
+    {K D : Type 0} → (K → Option (List ℕ)) → (K → ℕ) → (D → Told) → K → List D → IoView K D
+io_of written faults tell sink devices =
+    record { sink = sink; devices = devices; ends = ends_of written faults tell sink devices }

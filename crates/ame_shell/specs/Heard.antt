@@ -6,6 +6,7 @@ use Rattle.ame_journal.specs.Calls.{device_calls}
 use Rattle.ame_device.specs.declared.told.Heard.{Heard}
 use Rattle.ame_device.specs.declared.told.Told.{Told}
 use Rattle.ame_device.specs.Calls.{answered}
+use Rattle.ame_device.specs.Kinds.{AnswersByKind}
 use Rattle.ame_io.specs.Counts.{HasRisen}
 use Rattle.ame_protocol.specs.declared.stop.Stop.{Stop}
 use Rattle.ame_shell.specs.Ends.{told_at}
@@ -22,9 +23,12 @@ and_more heard more = option_map (λ calls. calls ++ more) heard
 abbrev pub added_calls : ℕ → Tree → List Entry → List Entry → List (ℤ × ℤ)
 added_calls k program base entries = drop (length (device_calls k program base)) (device_calls k program (base ++ entries))
 
--- Each device has heard the calls that entries after a base make of it, after what it had heard before, and no others.
+-- Each device has heard the calls that entries after a base make of it, after what it had heard before, and no others. It is of
+-- the kind that it was of, and its answers are those of its kind if those before were.
 pub record HaveHeardSince (program : Tree) (base entries : List Entry) (before after : List Told) : Type 0 where
   pub count : length after ≡ length before
+  pub kinds : (k : ℕ) → (told_at after k).kind ≡ (told_at before k).kind
+  pub answers : (k : ℕ) → AnswersByKind (told_at before k) → AnswersByKind (told_at after k)
   pub heard : (k : ℕ) → (told_at after k).heard ≡ and_more (told_at before k).heard (answered_all (added_calls k program base entries))
 
 -- so it is of a whole journal

@@ -20,20 +20,20 @@ pub struct Io<K: Sink, D: Device> {
 impl<K: Sink, D: Device> Model for Io<K, D> {
     ghost Value = { IoView K D };
 
-    ghost view = { λ io. io_of K.written K.faults D.device_heard D.device_faults io.sink io.devices.items };
+    ghost view = { λ io. io_of K.written K.faults D.device_told io.sink io.devices.items };
 }
 
 impl<K: Sink, D: Device> Io<K, D> {
     /// Joins a sink and devices.
     pub fn new(sink: K, devices: Vec<D>) -> Io<K, D>
-        ensures { result ≡ io_of K.written K.faults D.device_heard D.device_faults sink devices.items }
+        ensures { result ≡ io_of K.written K.faults D.device_told sink devices.items }
     {
         Io { sink, devices }
     }
 
     /// Takes sink and devices apart.
     pub fn into_parts(self) -> (K, Vec<D>)
-        ensures { io_of K.written K.faults D.device_heard D.device_faults result.0 result.1.items ≡ self }
+        ensures { io_of K.written K.faults D.device_told result.0 result.1.items ≡ self }
     {
         let Io { sink, devices } = self;
         (sink, devices)

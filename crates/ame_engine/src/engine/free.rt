@@ -43,12 +43,12 @@ where
         requires devices { (M.meaning.signature self.old.code).devices ≤ vec_len devices.old }
         ensures home { (attempt : Attempt) → task_at self.old.tasks seat ≡ Task.Free attempt → result ≡ Ok Freed.Home
             → HasComeHome M.meaning seat attempt.tried.number (M.meaning.stage self.old.code at)
-            (all_told D.device_heard D.device_faults devices.old.items) (all_told D.device_heard D.device_faults devices.new.items) self.old self.new }
+            (all_told D.device_told devices.old.items) (all_told D.device_told devices.new.items) self.old self.new }
         ensures refused { (attempt : Attempt) (k : ℕ) → task_at self.old.tasks seat ≡ Task.Free attempt → result ≡ Ok (Freed.DeviceFault k)
             → HasBeenRefused M.meaning seat attempt.tried.number k (M.meaning.stage self.old.code at)
-            (all_told D.device_heard D.device_faults devices.old.items) (all_told D.device_heard D.device_faults devices.new.items) self.old self.new }
+            (all_told D.device_told devices.old.items) (all_told D.device_told devices.new.items) self.old self.new }
         ensures err { OnErr result (self.new ≡ self.old) }
-        ensures quiet { OnErr result (all_told D.device_heard D.device_faults devices.new.items ≡ all_told D.device_heard D.device_faults devices.old.items) }
+        ensures quiet { OnErr result (all_told D.device_told devices.new.items ≡ all_told D.device_told devices.old.items) }
     {
         let Task::Free(attempt) = self.tasks[seat as usize] else {
             unreachable!();

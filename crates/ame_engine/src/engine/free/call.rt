@@ -75,12 +75,12 @@ where
         requires left { self.old.turns < self.old.limits.turns }
         requires devices { (M.meaning.signature self.old.code).devices ≤ vec_len devices.old }
         ensures home { result ≡ Ok Freed.Home → HasComeHome M.meaning seat attempt.tried.number (M.meaning.stage self.old.code at)
-            (all_told D.device_heard D.device_faults devices.old.items) (all_told D.device_heard D.device_faults devices.new.items) self.old self.new }
+            (all_told D.device_told devices.old.items) (all_told D.device_told devices.new.items) self.old self.new }
         ensures refused { (k : ℕ) → result ≡ Ok (Freed.DeviceFault k) → HasBeenRefused M.meaning seat attempt.tried.number k
             (M.meaning.stage self.old.code at)
-            (all_told D.device_heard D.device_faults devices.old.items) (all_told D.device_heard D.device_faults devices.new.items) self.old self.new }
+            (all_told D.device_told devices.old.items) (all_told D.device_told devices.new.items) self.old self.new }
         ensures err { OnErr result (self.new ≡ self.old) }
-        ensures quiet { OnErr result (all_told D.device_heard D.device_faults devices.new.items ≡ all_told D.device_heard D.device_faults devices.old.items) }
+        ensures quiet { OnErr result (all_told D.device_told devices.new.items ≡ all_told D.device_told devices.old.items) }
     {
         let number = attempt.tried.number;
         let alloc = *self.tasks.allocator();

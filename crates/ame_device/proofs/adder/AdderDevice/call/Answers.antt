@@ -1,7 +1,7 @@
 use Rattle.std.proofs.Common.{rules, ◌≡◌, [], ◌∷◌, ◌++◌, to_z, of_z, ap, ◌∙◌}
 use Rattle.std.specs.Int.{w64, int_wrapping_add}
-use Rattle.ame_device.specs.Calls.{answered}
-use Rattle.ame_device.specs.InMemory.{arguments, wrapping_sum}
+use Rattle.ame_device.specs.Calls.{answered, arguments}
+use Rattle.ame_device.specs.Sums.{wrapping_sum}
 use Rattle.ame_device.proofs.SumLemmas.{sum-more, sum-heard}
 use Rattle.ame_device.proofs.adder.AdderDevice.call.Goals as goal
 
@@ -16,3 +16,6 @@ returns-in-Ok-clause-answer c =
     let is : to_z w64 (of_z w64 c.in-Ok.answer) ≡ int_wrapping_add w64 c.self.inside.sum c.args.argument = search rules in
     is ∙ sum-more c.self.inside.log.heard c.self.inside.sum c.args.argument c.self.invariant
     ∙ ap (λ device. wrapping_sum (arguments device.heard ++ c.args.argument ∷ [])) c.self.view_is
+
+pub returns-in-Ok-clause-answers : goal.returns-in-Ok-clause-answers
+returns-in-Ok-clause-answers c = (search rules, returns-in-Ok-clause-answer c)

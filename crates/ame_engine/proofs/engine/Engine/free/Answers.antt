@@ -13,8 +13,8 @@ returns-in-Some-Device-clause-home g c = λ attempt is home.
     let here : task_at c.args.self.now.tasks c.args.seat ≡ Task.Free c.in-Free.attempt =
     its-free _ c.args.self.now c.self.view_is c.args.seat c.requires.on.stands.attempt c.requires.on.stands.has _ c.in-Free.attempt c.index.ensures c.in-Free.is in
     subst (λ (n : ℕ). HasComeHome g.M.Runner.meaning c.args.seat n
-    (g.M.Runner.meaning.stage c.args.self.now.code c.args.at) (all_told g.D.Device.device_heard g.D.Device.device_faults c.args.devices.now.items)
-    (all_told g.D.Device.device_heard g.D.Device.device_faults c.visit_device.new.devices.items) c.args.self.now c.visit_device.new.self)
+    (g.M.Runner.meaning.stage c.args.self.now.code c.args.at) (all_told g.D.Device.device_told c.args.devices.now.items)
+    (all_told g.D.Device.device_told c.visit_device.new.devices.items) c.args.self.now c.visit_device.new.self)
     (same-number _ c.in-Free.attempt attempt here is) (c.visit_device.ensures.home home)
 
 pub returns-in-Some-Device-clause-refused : goal.returns-in-Some-Device-clause-refused
@@ -22,8 +22,8 @@ returns-in-Some-Device-clause-refused g c = λ attempt k is fault.
     let here : task_at c.args.self.now.tasks c.args.seat ≡ Task.Free c.in-Free.attempt =
     its-free _ c.args.self.now c.self.view_is c.args.seat c.requires.on.stands.attempt c.requires.on.stands.has _ c.in-Free.attempt c.index.ensures c.in-Free.is in
     subst (λ (n : ℕ). HasBeenRefused g.M.Runner.meaning c.args.seat n k
-    (g.M.Runner.meaning.stage c.args.self.now.code c.args.at) (all_told g.D.Device.device_heard g.D.Device.device_faults c.args.devices.now.items)
-    (all_told g.D.Device.device_heard g.D.Device.device_faults c.visit_device.new.devices.items) c.args.self.now c.visit_device.new.self)
+    (g.M.Runner.meaning.stage c.args.self.now.code c.args.at) (all_told g.D.Device.device_told c.args.devices.now.items)
+    (all_told g.D.Device.device_told c.visit_device.new.devices.items) c.args.self.now c.visit_device.new.self)
     (same-number _ c.in-Free.attempt attempt here is) (c.visit_device.ensures.refused k fault)
 
 pub end_visit-requires-clause-settles : goal.end_visit-requires-clause-settles
@@ -50,13 +50,13 @@ returns-clause-home g c = λ attempt is _.
     let here : task_at c.args.self.now.tasks c.args.seat ≡ Task.Free c.in-Free.attempt =
     its-free _ c.args.self.now c.self.view_is c.args.seat c.requires.on.stands.attempt c.requires.on.stands.has _ c.in-Free.attempt c.index.ensures c.in-Free.is in
     subst (λ (n : ℕ). HasComeHome g.M.Runner.meaning c.args.seat n
-    (g.M.Runner.meaning.stage c.args.self.now.code c.args.at) (all_told g.D.Device.device_heard g.D.Device.device_faults c.args.devices.now.items)
-    (all_told g.D.Device.device_heard g.D.Device.device_faults c.args.devices.now.items) c.args.self.now c.end_visit.new.self)
+    (g.M.Runner.meaning.stage c.args.self.now.code c.args.at) (all_told g.D.Device.device_told c.args.devices.now.items)
+    (all_told g.D.Device.device_told c.args.devices.now.items) c.args.self.now c.end_visit.new.self)
     (same-number _ c.in-Free.attempt attempt here is)
     (home-served g.M.Runner.meaning
     c.args.self.now stands c.args.seat c.args.at c.requires.on c.requires.visits (g.met.M.Runner.sound c.args.self.now.code c.args.at c.requires.on.machine)
     c.in-Free.attempt here c.serve.new.at c.in_ok-change.change c.in_ok-change.ensures
-    (all_told g.D.Device.device_heard g.D.Device.device_faults c.args.devices.now.items) c.end_visit.new.self c.in_ok-end_visit.ensures.event)
+    (all_told g.D.Device.device_told c.args.devices.now.items) c.end_visit.new.self c.in_ok-end_visit.ensures.event)
 
 pub end_visit-requires-clause-low : goal.end_visit-requires-clause-low
 end_visit-requires-clause-low g c =

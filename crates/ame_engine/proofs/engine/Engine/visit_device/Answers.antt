@@ -41,8 +41,8 @@ pub invariant_of-self-in-Ok : goal.invariant_of-self-in-Ok
 invariant_of-self-in-Ok g c =
     let answer : to_z w64 (of_z w64 c.in-Ok.answer) ≡ c.in-Ok.answer = grind (arith, ints, to_z-of_z) in
     let argument : to_z w64 (of_z w64 c.args.argument) ≡ c.args.argument = grind (arith, ints, to_z-of_z) in
-    let called = subst (λ (n : ℤ). CallsOne (all_told g.D.Device.device_heard g.D.Device.device_faults c.args.devices.now.items) c.args.device n (Ok c.in-Ok.answer)
-    (all_told g.D.Device.device_heard g.D.Device.device_faults c.call_device.new.devices.items)) argument c.in-Ok.ensures in
+    let called = subst (λ (n : ℤ). CallsOne (all_told g.D.Device.device_told c.args.devices.now.items) c.args.device n (Ok c.in-Ok.answer)
+    (all_told g.D.Device.device_told c.call_device.new.devices.items)) argument c.in-Ok.ensures in
     let same : c.deref.result.now ≡ arc_value c.self.inside.code = search rules in
     let machine = subst (λ k. g.M.Runner.meaning.is_machine k c.feed.new.self) same c.feed.ensures.machine in
     let told : after_input (g.M.Runner.meaning.stage c.deref.result.now c.args.at).want (Val.Int c.in-Ok.answer) (g.M.Runner.meaning.stage c.deref.result.now c.args.at)
@@ -68,8 +68,8 @@ pub returns-in-Ok-clause-home : goal.returns-in-Ok-clause-home
 returns-in-Ok-clause-home g c =
     let answer : to_z w64 (of_z w64 c.in-Ok.answer) ≡ c.in-Ok.answer = grind (arith, ints, to_z-of_z) in
     let argument : to_z w64 (of_z w64 c.args.argument) ≡ c.args.argument = grind (arith, ints, to_z-of_z) in
-    let called = subst (λ (n : ℤ). CallsOne (all_told g.D.Device.device_heard g.D.Device.device_faults c.args.devices.now.items) c.args.device n (Ok c.in-Ok.answer)
-    (all_told g.D.Device.device_heard g.D.Device.device_faults c.call_device.new.devices.items)) argument c.in-Ok.ensures in
+    let called = subst (λ (n : ℤ). CallsOne (all_told g.D.Device.device_told c.args.devices.now.items) c.args.device n (Ok c.in-Ok.answer)
+    (all_told g.D.Device.device_told c.call_device.new.devices.items)) argument c.in-Ok.ensures in
     let same : c.deref.result.now ≡ arc_value c.self.inside.code = search rules in
     let machine = subst (λ k. g.M.Runner.meaning.is_machine k c.feed.new.self) same c.feed.ensures.machine in
     let told : after_input (g.M.Runner.meaning.stage c.deref.result.now c.args.at).want (Val.Int c.in-Ok.answer) (g.M.Runner.meaning.stage c.deref.result.now c.args.at)
@@ -89,8 +89,8 @@ returns-in-Ok-clause-home g c =
 
 pub returns-clause-quiet : goal.returns-clause-quiet
 returns-clause-quiet g c =
-    let lacks = subst (λ (f : DeviceFail). CallsOne (all_told g.D.Device.device_heard g.D.Device.device_faults c.args.devices.now.items) c.args.device
-    (to_z w64 (of_z w64 c.args.argument)) (Err f) (all_told g.D.Device.device_heard g.D.Device.device_faults c.call_device.new.devices.items))
+    let lacks = subst (λ (f : DeviceFail). CallsOne (all_told g.D.Device.device_told c.args.devices.now.items) c.args.device
+    (to_z w64 (of_z w64 c.args.argument)) (Err f) (all_told g.D.Device.device_told c.call_device.new.devices.items))
     c.in-Err-NoMemory.field-0-is c.in-Err-NoMemory.ensures in
     wanting-leaves _ _ _ _ lacks
 

@@ -28,7 +28,7 @@ use Rattle.ame_weak.proofs.StraightLemmas.{weak_calls_are_told}
 use Rattle.ame_weak.proofs.TypedRuns.{weak_runs_are_typed}
 use Rattle.ame_shell.specs.Ends.{told_at}
 use Rattle.ame_shell.specs.Heard.{HaveHeard, NoneFailed, OneFailed}
-use Rattle.ame_shell.proofs.ToldLemmas.{called-faults, fail-count, failed-heard, failed-one}
+use Rattle.ame_shell.proofs.ToldLemmas.{called-faults, fail-count, failed-heard, failed-kind, failed-one}
 use Rattle.ame_shell.proofs.HeardLemmas.{heard-silent, heard-failed, heard-call}
 use Rattle.ame_runner.specs.Freeing.{IsSilent, FailsFor, HasCalledFor}
 use Rattle.ame_runner.specs.Run.{IsOwn}
@@ -109,4 +109,5 @@ module _ (w : Weak) (i device : ℕ) (before after : List Told) (f : FailsFor w 
 
   pub heard-fault : (program : Tree) (opened : List Told) (labels : List Label) → HaveHeard program (straight labels) opened before → HaveHeard program (straight labels) opened after
   heard-fault program opened labels h =
-      heard-failed program [] opened (straight labels) before after (fail-count before after device f.argument f.called) (failed-heard before after device f.argument f.called) h
+      heard-failed program [] opened (straight labels) before after (fail-count before after device f.argument f.called)
+      (failed-heard before after device f.argument f.called) (failed-kind before after device f.argument f.called) h

@@ -36,8 +36,8 @@ impl<'a> Run<'a> {
     ) -> Result<WeakStop, NoMemory>
         ensures frame { KeepsFrame (run_of self.old) (run_of self.new) }
         ensures count { length devices.new.items ≡ length devices.old.items }
-        ensures plays { PlaysOn (run_of self.old) (run_of self.new) (all_told D.device_heard D.device_faults devices.old.items)
-            (all_told D.device_heard D.device_faults devices.new.items) result }
+        ensures plays { PlaysOn (run_of self.old) (run_of self.new) (all_told D.device_told devices.old.items)
+            (all_told D.device_told devices.new.items) result }
         ensures drawn { IfOk result (DrawsAll numbers.old (run_of self.old) (run_of self.new)) }
     {
         for _ in 0..u64::MAX {
@@ -57,8 +57,8 @@ impl<'a> Run<'a> {
     ) -> Result<Option<WeakStop>, NoMemory>
         ensures frame { KeepsFrame (run_of self.old) (run_of self.new) }
         ensures count { length devices.new.items ≡ length devices.old.items }
-        ensures goes { GoesOrStops (run_of self.old) (run_of self.new) (all_told D.device_heard D.device_faults devices.old.items)
-            (all_told D.device_heard D.device_faults devices.new.items) result }
+        ensures goes { GoesOrStops (run_of self.old) (run_of self.new) (all_told D.device_told devices.old.items)
+            (all_told D.device_told devices.new.items) result }
         ensures drawn { IfOk result (DrawsOrEnds numbers.old numbers.new (run_of self.old) (run_of self.new)) }
     {
         if self.left.is_empty() {
@@ -78,8 +78,8 @@ impl<'a> Run<'a> {
         requires { (run_of self.old).left ≡ [] }
         ensures frame { KeepsFrame (run_of self.old) (run_of self.new) }
         ensures count { length devices.new.items ≡ length devices.old.items }
-        ensures goes { GoesOrStops (run_of self.old) (run_of self.new) (all_told D.device_heard D.device_faults devices.old.items)
-            (all_told D.device_heard D.device_faults devices.new.items) result }
+        ensures goes { GoesOrStops (run_of self.old) (run_of self.new) (all_told D.device_told devices.old.items)
+            (all_told D.device_told devices.new.items) result }
         ensures drawn { IfOk result (DrawsOrEnds numbers.old numbers.new (run_of self.old) (run_of self.new)) }
     {
         if let Some(stop) = self.stop_at_rest(alloc)? {
@@ -98,8 +98,8 @@ impl<'a> Run<'a> {
     ) -> Result<Option<WeakStop>, NoMemory>
         ensures frame { KeepsFrame (run_of self.old) (run_of self.new) }
         ensures count { length devices.new.items ≡ length devices.old.items }
-        ensures goes { GoesOrStops (run_of self.old) (run_of self.new) (all_told D.device_heard D.device_faults devices.old.items)
-            (all_told D.device_heard D.device_faults devices.new.items) result }
+        ensures goes { GoesOrStops (run_of self.old) (run_of self.new) (all_told D.device_told devices.old.items)
+            (all_told D.device_told devices.new.items) result }
         ensures drawn { IfOk result (DrawsOrEnds numbers.old numbers.new (run_of self.old) (run_of self.new)) }
     {
         if self.is_spent() {
@@ -126,8 +126,8 @@ impl<'a> Run<'a> {
         requires turns { (run_of self.old).turns < (run_of self.old).limit }
         ensures frame { KeepsFrame (run_of self.old) (run_of self.new) }
         ensures count { length devices.new.items ≡ length devices.old.items }
-        ensures goes { GoesOrStops (run_of self.old) (run_of self.new) (all_told D.device_heard D.device_faults devices.old.items)
-            (all_told D.device_heard D.device_faults devices.new.items) result }
+        ensures goes { GoesOrStops (run_of self.old) (run_of self.new) (all_told D.device_told devices.old.items)
+            (all_told D.device_told devices.new.items) result }
         ensures taken { IfOk result (TakesOrStops number (run_of self.old) (run_of self.new)) }
     {
         if goes_free(self.play.state(), number) {
@@ -167,8 +167,8 @@ impl<'a> Run<'a> {
         requires { (run_of self.old).turns < (run_of self.old).limit }
         ensures frame { KeepsFrame (run_of self.old) (run_of self.new) }
         ensures count { length devices.new.items ≡ length devices.old.items }
-        ensures goes { GoesOrStops (run_of self.old) (run_of self.new) (all_told D.device_heard D.device_faults devices.old.items)
-            (all_told D.device_heard D.device_faults devices.new.items) result }
+        ensures goes { GoesOrStops (run_of self.old) (run_of self.new) (all_told D.device_told devices.old.items)
+            (all_told D.device_told devices.new.items) result }
         ensures taken { IfOk result (TakesOrStops number (run_of self.old) (run_of self.new)) }
     {
         let grows = self.is_growing(alloc, number)?;
@@ -215,8 +215,8 @@ impl<'a> Run<'a> {
         requires { (run_of self.old).turns < (run_of self.old).limit }
         ensures frame { KeepsFrame (run_of self.old) (run_of self.new) }
         ensures count { length devices.new.items ≡ length devices.old.items }
-        ensures goes { GoesOrStops (run_of self.old) (run_of self.new) (all_told D.device_heard D.device_faults devices.old.items)
-            (all_told D.device_heard D.device_faults devices.new.items) result }
+        ensures goes { GoesOrStops (run_of self.old) (run_of self.new) (all_told D.device_told devices.old.items)
+            (all_told D.device_told devices.new.items) result }
         ensures taken { IfOk result (TakesOrStops number (run_of self.old) (run_of self.new)) }
     {
         match next_free(self.play.state(), Loc(self.above), number, devices)? {

@@ -32,8 +32,8 @@ pub fn next_free<D: Device>(
 ) -> Result<Freed, NoMemory>
     ensures own { IfOk result (IsOwnOf number) }
     ensures count { length devices.new.items ≡ length devices.old.items }
-    ensures freed { IfOk result (HasFreed (weak_of state.now) number above.0 (all_told D.device_heard D.device_faults devices.old.items)
-        (all_told D.device_heard D.device_faults devices.new.items)) }
+    ensures freed { IfOk result (HasFreed (weak_of state.now) number above.0 (all_told D.device_told devices.old.items)
+        (all_told D.device_told devices.new.items)) }
 {
     match state.next_of(Some(number)) {
         Next::Close => Ok(Freed::Label(Label::Close(number))),
@@ -55,8 +55,8 @@ fn call_for<D: Device>(
     ensures own { IfOk result (IsOwnOf number) }
     ensures count { length devices.new.items ≡ length devices.old.items }
     ensures freed { IfOk result (λ freed. (w : Weak) (above : ℕ) → next_of w.state (Some number) ≡ Next.Device device argument
-        → HasFreed w number above (all_told D.device_heard D.device_faults devices.old.items)
-        (all_told D.device_heard D.device_faults devices.new.items) freed) }
+        → HasFreed w number above (all_told D.device_told devices.old.items)
+        (all_told D.device_told devices.new.items) freed) }
 {
     let place = usize::from(device);
     if place >= devices.len() {

@@ -33,7 +33,7 @@ pub fn weak_run<D: Device>(
     ensures count { length devices.new.items ≡ length devices.old.items }
     ensures run { IsWeakRunOf (tree_of accepted.now.program.term) turns result.labels.items result.tries.items result.stop }
     ensures stop { TellsStop (tree_of accepted.now.program.term) turns result.labels.items result.tries.items result.turns
-        (all_told D.device_heard D.device_faults devices.old.items) (all_told D.device_heard D.device_faults devices.new.items) result.stop }
+        (all_told D.device_told devices.old.items) (all_told D.device_told devices.new.items) result.stop }
     ensures drawn { result.stop ≢ Stop.NoMemory
         → IsDrawn (tree_of accepted.now.program.term) turns seed result.labels.items result.tries.items result.turns result.stop }
 {
@@ -49,9 +49,9 @@ fn play_out<D: Device>(alloc: Global, run: Run<'_>, seed: u32, devices: &mut Vec
     ensures count { length devices.new.items ≡ length devices.old.items }
     ensures run { IsRunning (run_of run.entry) → IsWeakRunOf (run_of run.entry).play.program (run_of run.entry).limit result.labels.items result.tries.items result.stop }
     ensures stop { IsRunning (run_of run.entry)
-        → HeardSoFar (run_of run.entry) (all_told D.device_heard D.device_faults devices.old.items) (all_told D.device_heard D.device_faults devices.old.items)
+        → HeardSoFar (run_of run.entry) (all_told D.device_told devices.old.items) (all_told D.device_told devices.old.items)
         → TellsStop (run_of run.entry).play.program (run_of run.entry).limit result.labels.items result.tries.items result.turns
-        (all_told D.device_heard D.device_faults devices.old.items) (all_told D.device_heard D.device_faults devices.new.items) result.stop }
+        (all_told D.device_told devices.old.items) (all_told D.device_told devices.new.items) result.stop }
     ensures drawn { (program : Tree) (limit : ℕ) → IsRunning (run_of run.entry) → IsAtStart program limit (run_of run.entry) → result.stop ≢ Stop.NoMemory
         → IsDrawn program limit seed result.labels.items result.tries.items result.turns result.stop }
 {

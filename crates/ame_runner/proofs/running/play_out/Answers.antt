@@ -14,8 +14,8 @@ returns-in-Ok-clause-run g c = λ running.
 
 pub returns-in-Ok-clause-stop : goal.returns-in-Ok-clause-stop
 returns-in-Ok-clause-stop g c = λ running heard.
-    let before = all_told g.D.Device.device_heard g.D.Device.device_faults c.args.devices.now.items in
-    let after = all_told g.D.Device.device_heard g.D.Device.device_faults c.play_on.new.devices.items in
+    let before = all_told g.D.Device.device_told c.args.devices.now.items in
+    let after = all_told g.D.Device.device_told c.play_on.new.devices.items in
     let x = c.in-Ok.ensures.plays running in
     let h = x.1 before running heard in
     tells-over (run_of c.args.run) (run_of c.play_on.new.self) c.play_on.ensures.frame c.end.result.labels.items c.end.result.tries.items c.end.result.turns before after
@@ -29,8 +29,8 @@ returns-in-Err-clause-run g c = λ running.
 pub returns-in-Err-clause-stop : goal.returns-in-Err-clause-stop
 returns-in-Err-clause-stop g c = λ running heard.
     tells-nothing (tree_of c.args.run.play.accepted.now.program.term) c.args.run.limit c.end-in-Err.result.labels.items c.end-in-Err.result.tries.items c.end-in-Err.result.turns
-    (all_told g.D.Device.device_heard g.D.Device.device_faults c.args.devices.now.items)
-    (all_told g.D.Device.device_heard g.D.Device.device_faults c.play_on.new.devices.items) c.end-in-Err.result.stop
+    (all_told g.D.Device.device_told c.args.devices.now.items)
+    (all_told g.D.Device.device_told c.play_on.new.devices.items) c.end-in-Err.result.stop
     (elim c.end-in-Err.ensures.kept [ inl e ↦ e | inr e ↦ e ])
 
 pub returns-in-Ok-clause-drawn : goal.returns-in-Ok-clause-drawn

@@ -13,9 +13,9 @@ pub returns-in-Ok-clause-stop : goal.returns-in-Ok-clause-stop
 returns-in-Ok-clause-stop g c =
     let p = tree_of c.args.accepted.now.program.term in
     let r = run_of c.in-Ok.run' in
-    let before = all_told g.D.Device.device_heard g.D.Device.device_faults c.args.devices.now.items in
+    let before = all_told g.D.Device.device_told c.args.devices.now.items in
     begun-tells p c.args.turns r c.in-Ok.ensures.begins c.play_out.result.labels.items c.play_out.result.tries.items c.play_out.result.turns before
-    (all_told g.D.Device.device_heard g.D.Device.device_faults c.play_out.new.devices.items) c.play_out.result.stop
+    (all_told g.D.Device.device_told c.play_out.new.devices.items) c.play_out.result.stop
     (c.play_out.ensures.stop c.in-Ok.ensures.runs (heard-at-start p c.args.turns r c.in-Ok.ensures.begins before))
 
 pub returns-in-Err-clause-run : goal.returns-in-Err-clause-run
@@ -25,7 +25,7 @@ returns-in-Err-clause-run g c =
 
 pub returns-in-Err-clause-stop : goal.returns-in-Err-clause-stop
 returns-in-Err-clause-stop g c =
-    let now = all_told g.D.Device.device_heard g.D.Device.device_faults c.args.devices.now.items in
+    let now = all_told g.D.Device.device_told c.args.devices.now.items in
     tells-nothing (tree_of c.args.accepted.now.program.term) c.args.turns c.not_begun.result.labels.items c.not_begun.result.tries.items c.not_begun.result.turns now now
     c.not_begun.result.stop c.not_begun.ensures.stop
 

@@ -8,7 +8,7 @@ use Rattle.ame_runner.proofs.run.Run.choose_at_rest.Goals as goal
 
 pub returns-in-Some-clause-goes : goal.returns-in-Some-clause-goes
 returns-in-Some-clause-goes g c =
-    goes-stop (run_of c.args.self.now) (all_told g.D.Device.device_heard g.D.Device.device_faults c.args.devices.now.items) c.in-Some.stop
+    goes-stop (run_of c.args.self.now) (all_told g.D.Device.device_told c.args.devices.now.items) c.in-Some.stop
     (subst (FoundAtRest (run_of c.args.self.now)) c.in-Some.is c.in_ok-stop.ensures)
 
 pub returns-in-Some-clause-drawn : goal.returns-in-Some-clause-drawn

@@ -17,7 +17,7 @@ pub returns-in-Some-clause-goes : goal.returns-in-Some-clause-goes
 returns-in-Some-clause-goes g c =
     let old = run_of c.args.self.now in
     let mid = run_of c.attempt.new.self in
-    let told = all_told g.D.Device.device_heard g.D.Device.device_faults c.args.devices.now.items in
+    let told = all_told g.D.Device.device_told c.args.devices.now.items in
     goes-tall old mid told c.in-Some.entry (λ running. subst (λ (o : Option Entry). HasAttempted o mid) c.in-Some.is (c.in_ok-grown.ensures.ok running))
     (hears-still old mid told c.attempt.ensures.play)
 
@@ -26,7 +26,7 @@ returns-clause-goes g c =
     let old = run_of c.args.self.now in
     let mid = run_of c.attempt.new.self in
     let new = run_of c.activate.new.self in
-    let told = all_told g.D.Device.device_heard g.D.Device.device_faults c.args.devices.now.items in
+    let told = all_told g.D.Device.device_told c.args.devices.now.items in
     let runs : IsRunning old → IsRunning mid = λ running. subst (λ (o : Option Entry). HasAttempted o mid) c.in_default.is (c.in_ok-grown.ensures.ok running) in
     goes-quiet old new told (λ running. c.in_ok-activate.ensures.runs (runs running))
     (hears-then None old mid new told told told (hears-still old mid told c.attempt.ensures.play) runs (c.in_ok-activate.ensures.hears told))

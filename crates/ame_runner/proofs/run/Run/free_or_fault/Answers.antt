@@ -12,8 +12,8 @@ use Rattle.ame_runner.proofs.run.Run.free_or_fault.Goals as goal
 pub returns-in_ok-count-in-Label-clause-goes : goal.returns-in_ok-count-in-Label-clause-goes
 returns-in_ok-count-in-Label-clause-goes g c =
     let old = run_of c.args.self.now in
-    let before = all_told g.D.Device.device_heard g.D.Device.device_faults c.args.devices.now.items in
-    let after = all_told g.D.Device.device_heard g.D.Device.device_faults c.next_free.new.devices.items in
+    let before = all_told g.D.Device.device_told c.args.devices.now.items in
+    let after = all_told g.D.Device.device_told c.next_free.new.devices.items in
     let a = c.args.self.now.play.accepted.now in
     let p = tree_of a.program.term in
     let refs = map typ_of a.ref_tys.items in
@@ -27,8 +27,8 @@ returns-in_ok-count-in-Label-clause-goes g c =
 pub returns-in_ok-end_by-in-Fault-clause-goes : goal.returns-in_ok-end_by-in-Fault-clause-goes
 returns-in_ok-end_by-in-Fault-clause-goes g c =
     let old = run_of c.args.self.now in
-    let before = all_told g.D.Device.device_heard g.D.Device.device_faults c.args.devices.now.items in
-    let after = all_told g.D.Device.device_heard g.D.Device.device_faults c.next_free.new.devices.items in
+    let before = all_told g.D.Device.device_told c.args.devices.now.items in
+    let after = all_told g.D.Device.device_told c.next_free.new.devices.items in
     let stopped = c.in_ok-end_by-in-Fault.ensures.stopped in
     goes-fault old (run_of c.end_by.new.self) c.args.number c.in-Fault.device before after
     (subst (HasFreed old.play.weak c.args.number old.above before after) c.in-Fault.is
@@ -38,8 +38,8 @@ returns-in_ok-end_by-in-Fault-clause-goes g c =
 pub returns-in_ok-count-in-Label-clause-taken : goal.returns-in_ok-count-in-Label-clause-taken
 returns-in_ok-count-in-Label-clause-taken g c =
     let old = run_of c.args.self.now in
-    let before = all_told g.D.Device.device_heard g.D.Device.device_faults c.args.devices.now.items in
-    let after = all_told g.D.Device.device_heard g.D.Device.device_faults c.next_free.new.devices.items in
+    let before = all_told g.D.Device.device_told c.args.devices.now.items in
+    let after = all_told g.D.Device.device_told c.next_free.new.devices.items in
     let freed =
     subst (HasFreed old.play.weak c.args.number old.above before after) c.in-Label.is
     (subst (λ (w : Weak). HasFreed w c.args.number old.above before after c.in_ok-label.field-0) c.state.ensures c.in_ok-label.ensures.freed) in
@@ -49,8 +49,8 @@ returns-in_ok-count-in-Label-clause-taken g c =
 pub returns-in_ok-end_by-in-Fault-clause-taken : goal.returns-in_ok-end_by-in-Fault-clause-taken
 returns-in_ok-end_by-in-Fault-clause-taken g c =
     let old = run_of c.args.self.now in
-    let before = all_told g.D.Device.device_heard g.D.Device.device_faults c.args.devices.now.items in
-    let after = all_told g.D.Device.device_heard g.D.Device.device_faults c.next_free.new.devices.items in
+    let before = all_told g.D.Device.device_told c.args.devices.now.items in
+    let after = all_told g.D.Device.device_told c.next_free.new.devices.items in
     stops-fault c.args.number c.in-Fault.device old (run_of c.end_by.new.self) before after
     (subst (HasFreed old.play.weak c.args.number old.above before after) c.in-Fault.is
     (subst (λ (w : Weak). HasFreed w c.args.number old.above before after c.in_ok-label.field-0) c.state.ensures c.in_ok-label.ensures.freed))

@@ -7,7 +7,7 @@ use Rattle.ame_runner.proofs.run.Run.go_free.Goals as goal
 
 pub returns-then-grows-clause-goes : goal.returns-then-grows-clause-goes
 returns-then-grows-clause-goes g c =
-    let told = all_told g.D.Device.device_heard g.D.Device.device_faults c.args.devices.now.items in
+    let told = all_told g.D.Device.device_told c.args.devices.now.items in
     goes-tall (run_of c.args.self.now) (run_of c.end_tall.new.self) told c.in_ok-entry.entry c.in_ok-entry.ensures.runs (c.in_ok-entry.ensures.hears told)
 
 pub returns-then-grows-clause-taken : goal.returns-then-grows-clause-taken

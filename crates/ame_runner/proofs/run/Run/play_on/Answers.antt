@@ -12,16 +12,16 @@ loop-init g c = record {
   frame = record { program = refl; limit = refl };
   count = refl;
   runs = λ running. running;
-  hears = hears-still (run_of c.args.self.now) (run_of c.args.self.now) (all_told g.D.Device.device_heard g.D.Device.device_faults c.args.devices.now.items) refl;
+  hears = hears-still (run_of c.args.self.now) (run_of c.args.self.now) (all_told g.D.Device.device_told c.args.devices.now.items) refl;
   drawn = λ program limit seed running course. course;
 }
 
 pub loop-preserved : goal.loop-preserved
 loop-preserved g c =
     let was = c.loop.invariant in
-    let before = all_told g.D.Device.device_heard g.D.Device.device_faults c.args.devices.now.items in
-    let mid = all_told g.D.Device.device_heard g.D.Device.device_faults c.loop.devices.items in
-    let after = all_told g.D.Device.device_heard g.D.Device.device_faults c.choose.new.devices.items in
+    let before = all_told g.D.Device.device_told c.args.devices.now.items in
+    let mid = all_told g.D.Device.device_told c.loop.devices.items in
+    let after = all_told g.D.Device.device_told c.choose.new.devices.items in
     let a = run_of c.args.self.now in
     let b = run_of c.loop.self in
     let q = run_of c.choose.new.self in
@@ -38,16 +38,16 @@ loop-preserved g c =
 
 pub returns-in_err-stop-clause-plays : goal.returns-in_err-stop-clause-plays
 returns-in_err-stop-clause-plays g c =
-    plays-lost (run_of c.args.self.now) (run_of c.choose.new.self) (all_told g.D.Device.device_heard g.D.Device.device_faults c.args.devices.now.items)
-    (all_told g.D.Device.device_heard g.D.Device.device_faults c.choose.new.devices.items) c.from_residual.result c.from_residual.ensures.0
+    plays-lost (run_of c.args.self.now) (run_of c.choose.new.self) (all_told g.D.Device.device_told c.args.devices.now.items)
+    (all_told g.D.Device.device_told c.choose.new.devices.items) c.from_residual.result c.from_residual.ensures.0
     (λ running. c.in_err-stop.ensures.goes (c.loop.invariant.runs running))
 
 pub returns-in-Some-clause-plays : goal.returns-in-Some-clause-plays
 returns-in-Some-clause-plays g c =
     let was = c.loop.invariant in
-    let before = all_told g.D.Device.device_heard g.D.Device.device_faults c.args.devices.now.items in
-    let mid = all_told g.D.Device.device_heard g.D.Device.device_faults c.loop.devices.items in
-    let after = all_told g.D.Device.device_heard g.D.Device.device_faults c.choose.new.devices.items in
+    let before = all_told g.D.Device.device_told c.args.devices.now.items in
+    let mid = all_told g.D.Device.device_told c.loop.devices.items in
+    let after = all_told g.D.Device.device_told c.choose.new.devices.items in
     let a = run_of c.args.self.now in
     let b = run_of c.loop.self in
     let q = run_of c.choose.new.self in

@@ -13,8 +13,8 @@ invariant-loop g l = record {
   count : length l.devices.items ≡ length l.initial.devices.items;
   runs : IsRunning (run_of l.initial.self) → IsRunning (run_of l.self);
   hears :
-      HearsOn None (run_of l.initial.self) (run_of l.self) (all_told g.D.Device.device_heard g.D.Device.device_faults l.initial.devices.items)
-      (all_told g.D.Device.device_heard g.D.Device.device_faults l.devices.items);
+      HearsOn None (run_of l.initial.self) (run_of l.self) (all_told g.D.Device.device_told l.initial.devices.items)
+      (all_told g.D.Device.device_told l.devices.items);
   drawn :
       (program : Tree) (limit seed : ℕ) → IsRunning (run_of l.initial.self) → Course program limit seed l.initial.numbers (run_of l.initial.self)
       → Course program limit seed l.numbers (run_of l.self);

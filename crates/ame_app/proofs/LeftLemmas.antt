@@ -11,8 +11,8 @@ use Rattle.ame_term.specs.declared.types.Sort.{Sort}
 use Rattle.ame_laws.specs.Typed.Listed.{signature_of}
 use Rattle.ame_laws.specs.Typed.StoreTyping.{StoreTyping}
 use Rattle.ame_laws.specs.Typed.TypedState.{IsTyped}
-use Rattle.ame_device.specs.declared.told.Heard.{Heard}
-use Rattle.ame_device.specs.Calls.{told, all_told}
+use Rattle.ame_device.specs.declared.told.Told.{Told}
+use Rattle.ame_device.specs.Calls.{all_told}
 use Rattle.ame_machine.specs.RefSorts.{IsRefForm}
 use Rattle.ame_journal.specs.declared.entry.Entry.{Entry}
 use Rattle.ame_journal.specs.Replayed.{Replayed, begun_at}
@@ -119,7 +119,6 @@ length-told f [] = refl
 length-told f (x ∷ xs) = ap suc (length-told f xs)
 
 -- as many devices show what they heard as there are
-pub told-count : {D : Type 0} (heard : D → Option (List Heard)) (faults : D → ℕ) (old new : List D) → length new ≡ length old
-    → length (all_told heard faults new) ≡ length (all_told heard faults old)
-told-count heard faults old new same =
-    length-told (λ d. told (heard d) (faults d)) new ∙ same ∙ sym (length-told (λ d. told (heard d) (faults d)) old)
+pub told-count : {D : Type 0} (tell : D → Told) (old new : List D) → length new ≡ length old
+    → length (all_told tell new) ≡ length (all_told tell old)
+told-count tell old new same = length-told tell new ∙ same ∙ sym (length-told tell old)

@@ -16,3 +16,4 @@ pub mod GivenLemmas
 pub mod CompleteLemmas
 pub mod PickLemmas
 pub mod PromisedLemmas
+pub mod StandardLemmas

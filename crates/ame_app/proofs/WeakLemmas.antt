@@ -350,6 +350,8 @@ module _ (program : Tree) (labels : List Label) (entries : List Entry) (same : (
   heard-too : (before after : List Told) → HaveHeard program (straight labels) before after → HaveHeard program entries before after
   heard-too before after h = record {
     count = h.count;
+    kinds = h.kinds;
+    answers = h.answers;
     heard = λ k.
         h.heard k ∙ ap (λ cs. and_more (told_at before k).heard (answered_all (drop (length (device_calls k program [])) cs))) (sym (same k));
   }

@@ -94,8 +94,8 @@ where
     requires ranges { IsInRange (command_of command) }
     requires few { vec_len devices ≤ max_devices }
     ensures answered { (call : Call) → IsCallOf call (command_of command) bytes.now (vec_len devices) → IsPromised call (reported result)
-        (ends_of K.written K.faults D.device_heard D.device_faults sink devices.items)
-        (ends_of K.written K.faults D.device_heard D.device_faults result.sink result.devices.items) }
+        (ends_of K.written K.faults D.device_told sink devices.items)
+        (ends_of K.written K.faults D.device_told result.sink result.devices.items) }
 {
     spells_one_command();
     match asked_of(alloc, command, bytes, devices.len() as u32) {
@@ -116,9 +116,9 @@ fn answer_alone<K: Sink + Drop, D: Device>(
     ensures ran { IfSome (reported result).run (λ run. (call : Call)
         → IsJobOf call asked.text.items (arc_value asked.job.code) asked.job.command asked.job.front
         → Headline call (reported result) run (end_in run.left) io.ends
-        (ends_of K.written K.faults D.device_heard D.device_faults result.sink result.devices.items)) }
+        (ends_of K.written K.faults D.device_told result.sink result.devices.items)) }
     ensures turned_away { (reported result).run ≡ None → IsLeft asked.job.command asked.job.front (arc_value asked.job.code) (reported result) io.ends
-        (ends_of K.written K.faults D.device_heard D.device_faults result.sink result.devices.items) }
+        (ends_of K.written K.faults D.device_told result.sink result.devices.items) }
 {
     match opened(alloc, &asked.job) {
         Ok(_) => run_here(alloc, asked, io),
@@ -135,9 +135,9 @@ fn run_here<K: Sink + Drop, D: Device>(alloc: Global, asked: Asked, io: Io<K, D>
     ensures ran { IfSome (reported result).run (λ run. (call : Call)
         → IsJobOf call asked.text.items (arc_value asked.job.code) asked.job.command asked.job.front
         → Headline call (reported result) run (end_in run.left) io.ends
-        (ends_of K.written K.faults D.device_heard D.device_faults result.sink result.devices.items)) }
+        (ends_of K.written K.faults D.device_told result.sink result.devices.items)) }
     ensures turned_away { (reported result).run ≡ None → IsToldAlone [] Own.Nothing Status.NoMemory (reported result) io.ends
-        (ends_of K.written K.faults D.device_heard D.device_faults result.sink result.devices.items) }
+        (ends_of K.written K.faults D.device_told result.sink result.devices.items) }
 {
     match make_alone(alloc, &asked.job, io) {
         Ok(made) => conclude(asked, made),

@@ -54,7 +54,7 @@ pub(crate) fn leave<K: Sink + Drop, D: Device>(
     ensures text { result.text ≡ asked.text }
     ensures run { result.run ≡ None }
     ensures left { IsLeft asked.job.command asked.job.front (arc_value asked.job.code) (reported result) io.ends
-        (ends_of K.written K.faults D.device_heard D.device_faults result.sink result.devices.items) }
+        (ends_of K.written K.faults D.device_told result.sink result.devices.items) }
 {
     let Settled { told, ahead, own } = settled;
     let refusal = Refusal {
@@ -71,7 +71,7 @@ pub(crate) fn leave_unbegun<K: Sink + Drop, D: Device>(asked: Asked, io: Io<K, D
     ensures command { result.command ≡ Some asked.job.command }
     ensures run { result.run ≡ None }
     ensures alone { IsToldAlone [] Own.Nothing Status.NoMemory (reported result) io.ends
-        (ends_of K.written K.faults D.device_heard D.device_faults result.sink result.devices.items) }
+        (ends_of K.written K.faults D.device_told result.sink result.devices.items) }
 {
     let told = Status::NoMemory;
     let refusal = Refusal {
@@ -91,7 +91,7 @@ pub(crate) fn conclude<K: Sink + Drop, D: Device>(asked: Asked, made: Made<K, D>
         → IsJobOf call asked.text.items (arc_value asked.job.code) asked.job.command asked.job.front
         → IsRunMade asked.job.command asked.job.front (arc_value asked.job.code) before made.left made.ahead.items made.io.ends
         → Headline call (reported result) run (end_in run.left) before
-        (ends_of K.written K.faults D.device_heard D.device_faults result.sink result.devices.items)) }
+        (ends_of K.written K.faults D.device_told result.sink result.devices.items)) }
 {
     let Made { left, ahead, io } = made;
     let (mut sink, devices) = io.into_parts();

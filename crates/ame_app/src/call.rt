@@ -51,8 +51,8 @@ where
     requires few { vec_len devices ≤ max_devices }
     ensures answered { IsPromised (call_of (map string_bytes words.now)
         (what_is_given S.left S.faults source.old) (what_is_given S.left S.faults source.new) (vec_len devices)) (reported result)
-        (ends_of K.written K.faults D.device_heard D.device_faults sink devices.items)
-        (ends_of K.written K.faults D.device_heard D.device_faults result.sink result.devices.items) }
+        (ends_of K.written K.faults D.device_told sink devices.items)
+        (ends_of K.written K.faults D.device_told result.sink result.devices.items) }
 {
     spells_one_command();
     match asked_by_words(alloc, words, source, devices.len() as u32) {
@@ -79,8 +79,8 @@ where
     requires few { vec_len devices ≤ max_devices }
     ensures answered { IsPromised (call_of (map string_bytes words.now)
         (what_is_given S.left S.faults source.old) (what_is_given S.left S.faults source.new) (vec_len devices)) (reported result)
-        (ends_of K.written K.faults device_heard device_faults sink devices.items)
-        (ends_of K.written K.faults device_heard device_faults result.sink result.devices.items) }
+        (ends_of K.written K.faults device_told sink devices.items)
+        (ends_of K.written K.faults device_told result.sink result.devices.items) }
 {
     run_words_over(rt, alloc, words, source, sink, devices, gate)
 }
@@ -98,9 +98,9 @@ where
     ensures ran { IfSome (reported result).run (λ run. (call : Call)
         → IsJobOf call asked.text.items (arc_value asked.job.code) asked.job.command asked.job.front
         → Headline call (reported result) run (end_in run.left) io.ends
-        (ends_of K.written K.faults D.device_heard D.device_faults result.sink result.devices.items)) }
+        (ends_of K.written K.faults D.device_told result.sink result.devices.items)) }
     ensures turned_away { (reported result).run ≡ None → IsLeft asked.job.command asked.job.front (arc_value asked.job.code) (reported result) io.ends
-        (ends_of K.written K.faults D.device_heard D.device_faults result.sink result.devices.items) }
+        (ends_of K.written K.faults D.device_told result.sink result.devices.items) }
 {
     match opened(alloc, &asked.job) {
         Ok(engine) => run(rt, alloc, asked, engine, io, gate),
@@ -130,9 +130,9 @@ where
     ensures ran { IfSome (reported result).run (λ run. (call : Call)
         → IsJobOf call asked.text.items (arc_value asked.job.code) asked.job.command asked.job.front
         → Headline call (reported result) run (end_in run.left) io.ends
-        (ends_of K.written K.faults D.device_heard D.device_faults result.sink result.devices.items)) }
+        (ends_of K.written K.faults D.device_told result.sink result.devices.items)) }
     ensures turned_away { (reported result).run ≡ None → IsToldAlone [] Own.Nothing Status.NoMemory (reported result) io.ends
-        (ends_of K.written K.faults D.device_heard D.device_faults result.sink result.devices.items) }
+        (ends_of K.written K.faults D.device_told result.sink result.devices.items) }
 {
     match make(rt, alloc, &asked.job, engine, io, gate) {
         Ok(made) => conclude(asked, made),

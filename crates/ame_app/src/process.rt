@@ -1,14 +1,14 @@
 //! A process: its words, and its devices.
 
-ghost use Rattle.std.specs.Prelude.{◌≡◌, ◌≤◌, [], ◌∷◌, IfOk, IfErr, IfSome, Some, None, map, string_bytes, vec_len};
-ghost use Rattle.ame_device.specs.Calls.{told, all_told};
+ghost use Rattle.std.specs.Prelude.{◌≡◌, ◌≤◌, [], IfOk, IfErr, IfSome, Some, None, map, string_bytes, vec_len};
+ghost use Rattle.ame_device.specs.Calls.{all_told};
 ghost use Rattle.ame_shell.specs.Ends.{ends_of};
 ghost use Rattle.ame_app.specs.Calls.{what_is_given, call_of};
 ghost use Rattle.ame_app.specs.Answered.{IsPromised};
 ghost use Rattle.ame_app.specs.Headline.{IsToldAlone};
 ghost use Rattle.ame_app.specs.Reported.{reported};
 ghost use Rattle.ame_app.specs.declared.parts.Own.{Own};
-ghost use Rattle.ame_app.specs.Standard.{heard_by, faults_of, with_new, ComeBack};
+ghost use Rattle.ame_app.specs.Standard.{told_by, two_new, with_new, ComeBack, CountAndAddIfAble};
 ghost use Rattle.ame_app.specs.Verdict.{unread};
 
 use crate::call::run_words_over;
@@ -55,12 +55,13 @@ where
     ensures answered { IfOk words (λ ws. IsPromised (call_of (map string_bytes ws.items)
         (what_is_given S.left S.faults source.old) (what_is_given S.left S.faults source.new) 2)
         (reported result) (with_new (vec_len result.devices) (K.written sink) (K.faults sink))
-        (ends_of K.written K.faults heard_by faults_of result.sink result.devices.items)) }
+        (ends_of K.written K.faults told_by result.sink result.devices.items)) }
     ensures two { IfSome result.run (λ _. vec_len result.devices ≡ 2) }
     ensures devices { IfOk words (λ _. ComeBack (vec_len result.devices) (reported result)) }
+    ensures kinds { IfSome (reported result).run (λ run. CountAndAddIfAble run result.devices.items) }
     ensures unread { IfErr words (λ fault. (result.command ≡ None) × IsToldAlone [] Own.Nothing (unread fault) (reported result)
-        (ends_of K.written K.faults heard_by faults_of sink [])
-        (ends_of K.written K.faults heard_by faults_of result.sink result.devices.items)) }
+        (ends_of K.written K.faults told_by sink [])
+        (ends_of K.written K.faults told_by result.sink result.devices.items)) }
     ensures small { vec_len result.text ≤ READ_LIMIT }
 {
     spells_one_command();
@@ -90,7 +91,7 @@ where
 
 /// Makes the two devices of a process.
 pub fn standard_devices(alloc: Global) -> Result<Vec<StandardDevice>, AllocError>
-    ensures { IfOk result (λ devices. all_told heard_by faults_of devices.items ≡ told (Some []) 0 ∷ told (Some []) 0 ∷ []) }
+    ensures { IfOk result (λ devices. all_told told_by devices.items ≡ two_new) }
 {
     let mut devices = Vec::new(alloc);
     devices.push(StandardDevice::Counter(Counter::new(alloc)))?;

@@ -50,8 +50,8 @@ pub(crate) fn turn_away<K: Sink + Drop, D: Device>(
     ensures run { result.run ≡ None }
     ensures devices { result.devices ≡ devices }
     ensures alone { IsToldAlone [] Own.Nothing refusal.told (reported result)
-        (ends_of K.written K.faults D.device_heard D.device_faults sink devices.items)
-        (ends_of K.written K.faults D.device_heard D.device_faults result.sink result.devices.items) }
+        (ends_of K.written K.faults D.device_told sink devices.items)
+        (ends_of K.written K.faults D.device_told result.sink result.devices.items) }
 {
     tell(&[], Own::Nothing, refusal, sink, devices)
 }
@@ -70,8 +70,8 @@ fn tell<K: Sink + Drop, D: Device>(
     ensures run { result.run ≡ None }
     ensures devices { result.devices ≡ devices }
     ensures alone { IsToldAlone ahead.now own refusal.told (reported result)
-        (ends_of K.written K.faults D.device_heard D.device_faults sink devices.items)
-        (ends_of K.written K.faults D.device_heard D.device_faults result.sink result.devices.items) }
+        (ends_of K.written K.faults D.device_told sink devices.items)
+        (ends_of K.written K.faults D.device_told result.sink result.devices.items) }
 {
     let Refusal {
         command,
@@ -103,7 +103,7 @@ pub(crate) fn turn_back<K: Sink + Drop, D: Device>(
     ensures command { result.command ≡ refusal.command }
     ensures run { result.run ≡ None }
     ensures alone { IsToldAlone ahead.now own refusal.told (reported result) io.ends
-        (ends_of K.written K.faults D.device_heard D.device_faults result.sink result.devices.items) }
+        (ends_of K.written K.faults D.device_told result.sink result.devices.items) }
 {
     let (sink, devices) = io.into_parts();
     tell(ahead, own, refusal, sink, devices)

@@ -10,11 +10,9 @@ pub enum StandardDevice {
 }
 
 impl Device for StandardDevice {
-    ghost use Rattle.ame_app.specs.Standard.{heard_by, faults_of};
+    ghost use Rattle.ame_app.specs.Standard.{told_by};
 
-    ghost device_heard = { heard_by };
-
-    ghost device_faults = { faults_of };
+    ghost device_told = { told_by };
 
     fn call(&mut self, argument: i64) -> Result<i64, DeviceFail> {
         match self {

@@ -1,15 +1,11 @@
 -- What a call from C begins with.
 use Rattle.std.proofs.Common.{◌≡◌, ◌∙◌, ℕ, List, [], ◌∷◌, length, Option, Some, refl, ap}
 use Rattle.ame_device.specs.declared.told.Told.{Told}
-use Rattle.ame_device.specs.Calls.{told, all_told}
+use Rattle.ame_device.specs.Calls.{all_told}
 use Rattle.ame_shell.specs.Ends.{Ends}
 use Rattle.ame_app.specs.declared.standard.StandardDevice.{StandardDevice}
-use Rattle.ame_app.specs.Standard.{heard_by, faults_of}
+use Rattle.ame_app.specs.Standard.{told_by, two_new}
 use Rattle.ame_c.specs.Devices.{new_ends}
-
--- two devices that heard nothing, as lists show them
-abbrev pub two_new : List Told
-two_new = told (Some []) 0 ∷ told (Some []) 0 ∷ []
 
 abbrev pub as-ends : Option (List ℕ) → ℕ → List Told → Ends
 as-ends written faults devices = record { written = written; write_faults = faults; told = devices }
@@ -21,7 +17,7 @@ new-before written faults devices none good two =
     ap (λ (w : Option (List ℕ)). as-ends w faults devices) none
     ∙ ap (λ (f : ℕ). as-ends (Some []) f devices) good ∙ ap (λ (d : List Told). as-ends (Some []) 0 d) two
 
-pub two-devices : (devices : List StandardDevice) → all_told heard_by faults_of devices ≡ two_new → length devices ≡ 2
+pub two-devices : (devices : List StandardDevice) → all_told told_by devices ≡ two_new → length devices ≡ 2
 two-devices [] e = absurd (cc)
 two-devices (x ∷ []) e = absurd (cc)
 two-devices (x ∷ y ∷ []) e = refl

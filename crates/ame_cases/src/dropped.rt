@@ -1,6 +1,8 @@
 //! A device that is handed in is handed back, and dropped once, and not before the report is.
 
 ghost use Rattle.std.specs.Prelude.{None};
+ghost use Rattle.ame_device.specs.Calls.{told};
+ghost use Rattle.ame_device.specs.declared.told.DeviceKind.{DeviceKind};
 
 use crate::call::report_of;
 use crate::case::{Case, cases_of};
@@ -40,9 +42,7 @@ impl Drop for CountsDrops {
 }
 
 impl Device for CountsDrops {
-    ghost device_heard = { λ device. None };
-
-    ghost device_faults = { λ device. 0 };
+    ghost device_told = { λ device. told DeviceKind.Other None 0 };
 
     fn call(&mut self, argument: i64) -> Result<i64, DeviceFail> {
         Ok(argument)

@@ -1,6 +1,8 @@
 //! Devices that fail.
 
 ghost use Rattle.std.specs.Prelude.{Some};
+ghost use Rattle.ame_device.specs.Calls.{told};
+ghost use Rattle.ame_device.specs.declared.told.DeviceKind.{DeviceKind};
 
 use ame_device::{Device, DeviceFail, Heard, Log};
 use std::alloc::Global;
@@ -25,9 +27,7 @@ impl Tape {
 }
 
 impl Device for Tape {
-    ghost device_heard = { λ device. Some device.log.heard };
-
-    ghost device_faults = { λ device. device.log.faults };
+    ghost device_told = { λ device. told DeviceKind.Other (Some device.log.heard) device.log.faults };
 
     fn call(&mut self, argument: i64) -> Result<i64, DeviceFail> {
         let Some(answer) = self.answers.get(self.at).copied() else {
@@ -67,9 +67,7 @@ impl FailsAt {
 }
 
 impl Device for FailsAt {
-    ghost device_heard = { λ device. Some device.log.heard };
-
-    ghost device_faults = { λ device. device.log.faults };
+    ghost device_told = { λ device. told DeviceKind.Other (Some device.log.heard) device.log.faults };
 
     fn call(&mut self, argument: i64) -> Result<i64, DeviceFail> {
         self.calls = self.calls.saturating_add(1);

@@ -1,6 +1,8 @@
 //! A source, a sink, a device and a gate.
 
 ghost use Rattle.std.specs.Prelude.{Some, None};
+ghost use Rattle.ame_device.specs.Calls.{told};
+ghost use Rattle.ame_device.specs.declared.told.DeviceKind.{DeviceKind};
 
 use ame_device::{Device, DeviceFail, Heard};
 use ame_io::{Failed, Sink, Source};
@@ -64,9 +66,7 @@ impl Sink for Page {
 pub struct Doubler;
 
 impl Device for Doubler {
-    ghost device_heard = { λ _. None };
-
-    ghost device_faults = { λ _. 0 };
+    ghost device_told = { λ _. told DeviceKind.Other None 0 };
 
     fn call(&mut self, argument: i64) -> Result<i64, DeviceFail> {
         Ok(argument.wrapping_mul(2))

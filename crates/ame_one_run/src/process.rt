@@ -10,7 +10,7 @@ ghost use Rattle.ame_app.specs.Answered.{IsPromised};
 ghost use Rattle.ame_app.specs.Calls.{what_is_given, call_of};
 ghost use Rattle.ame_app.specs.Headline.{IsToldAlone};
 ghost use Rattle.ame_app.specs.Reported.{reported};
-ghost use Rattle.ame_app.specs.Standard.{heard_by, faults_of, with_new, ComeBack};
+ghost use Rattle.ame_app.specs.Standard.{told_by, with_new, ComeBack, CountAndAddIfAble};
 ghost use Rattle.ame_app.specs.Verdict.{unread};
 ghost use Rattle.ame_one_run.specs.OneRun.{AskForRun, IsOneRun};
 ghost use Rattle.ame_one_run.specs.Commands.{BeginsAnew, IsRunOf};
@@ -38,21 +38,22 @@ where
     ensures one_run { IfOk words (λ ws. AskForRun (map string_bytes ws.items) → IfSome result.run (λ _.
         IsReadWhole (S.left source.old) (S.left source.new) result.text.items × IsOneRun result.text.items 2 []
         (with_new (vec_len result.devices) (K.written sink) (K.faults sink))
-        (ends_of K.written K.faults heard_by faults_of result.sink result.devices.items))) }
+        (ends_of K.written K.faults told_by result.sink result.devices.items))) }
     ensures each_run { IfOk words (λ ws. (command : Command) → SpellsCommand (map string_bytes ws.items) command → BeginsAnew command
         → IfSome (reported result).run (λ run. IsRunOf command (call_of (map string_bytes ws.items)
         (what_is_given S.left S.faults source.old) (what_is_given S.left S.faults source.new) 2) (reported result) run
         (with_new (vec_len result.devices) (K.written sink) (K.faults sink))
-        (ends_of K.written K.faults heard_by faults_of result.sink result.devices.items))) }
+        (ends_of K.written K.faults told_by result.sink result.devices.items))) }
     ensures answered { IfOk words (λ ws. IsPromised (call_of (map string_bytes ws.items)
         (what_is_given S.left S.faults source.old) (what_is_given S.left S.faults source.new) 2)
         (reported result) (with_new (vec_len result.devices) (K.written sink) (K.faults sink))
-        (ends_of K.written K.faults heard_by faults_of result.sink result.devices.items)) }
+        (ends_of K.written K.faults told_by result.sink result.devices.items)) }
     ensures two { IfSome result.run (λ _. vec_len result.devices ≡ 2) }
     ensures devices { IfOk words (λ _. ComeBack (vec_len result.devices) (reported result)) }
+    ensures kinds { IfSome (reported result).run (λ run. CountAndAddIfAble run result.devices.items) }
     ensures unread { IfErr words (λ fault. (result.command ≡ None) × IsToldAlone [] Own.Nothing (unread fault) (reported result)
-        (ends_of K.written K.faults heard_by faults_of sink [])
-        (ends_of K.written K.faults heard_by faults_of result.sink result.devices.items)) }
+        (ends_of K.written K.faults told_by sink [])
+        (ends_of K.written K.faults told_by result.sink result.devices.items)) }
     ensures small { vec_len result.text ≤ READ_LIMIT }
 {
     one_run();

@@ -12,7 +12,7 @@ use Rattle.ame_app.proofs.alone.run_alone_over.Goals as goal
 pub returns-in-Ok : goal.returns-in-Ok
 returns-in-Ok g c =
     let r = c.answer_alone.result in
-    let after = ends_of g.K.Sink.written g.K.Sink.faults g.D.Device.device_heard g.D.Device.device_faults r.sink r.devices.items in
+    let after = ends_of g.K.Sink.written g.K.Sink.faults g.D.Device.device_told r.sink r.devices.items in
     let asked = c.in-Ok.asked in
     let code = arc_value asked.job.code in
     record {
@@ -26,8 +26,8 @@ returns-in-Ok g c =
 pub returns-in-Err : goal.returns-in-Err
 returns-in-Err g c =
     let r = c.turn_away.result in
-    let before = ends_of g.K.Sink.written g.K.Sink.faults g.D.Device.device_heard g.D.Device.device_faults c.args.sink c.args.devices.items in
-    let after = ends_of g.K.Sink.written g.K.Sink.faults g.D.Device.device_heard g.D.Device.device_faults r.sink r.devices.items in
+    let before = ends_of g.K.Sink.written g.K.Sink.faults g.D.Device.device_told c.args.sink c.args.devices.items in
+    let after = ends_of g.K.Sink.written g.K.Sink.faults g.D.Device.device_told r.sink r.devices.items in
     let refusal = c.in-Err.refusal in
     record {
       answered = λ call of. refusal-promised c.spells_one_command.ensures call (reported r) before after refusal.text.items refusal.command refusal.told

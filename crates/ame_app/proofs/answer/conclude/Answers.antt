@@ -19,8 +19,8 @@ returns-clause-ran g c = λ call before job made.
     let status = c.speak_after-status.result in
     let parts = c.into_parts-sink.result in
     let sink = c.speak_after-status.new.sink in
-    let mid = ends_of written faults g.D.Device.device_heard g.D.Device.device_faults parts.0 parts.1.items in
-    let after = ends_of written faults g.D.Device.device_heard g.D.Device.device_faults sink parts.1.items in
+    let mid = ends_of written faults g.D.Device.device_told parts.0 parts.1.items in
+    let after = ends_of written faults g.D.Device.device_told sink parts.1.items in
     let told = c.of-told.result in
     let spoken = subst (λ (l : List ℕ). SpeaksAfter left l told (verdict told ++ written_behind command left told) status (written parts.0)
     (faults parts.0) (written sink) (faults sink)) c.deref.ensures.value c.speak_after-status.ensures in

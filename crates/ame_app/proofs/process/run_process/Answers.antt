@@ -10,10 +10,14 @@ use Rattle.ame_app.specs.Causes.{IsNamed}
 use Rattle.ame_app.specs.Causes.RefusalCause.{by_memory}
 use Rattle.ame_app.specs.Headline.{IsToldAlone}
 use Rattle.ame_app.specs.Reported.{run_view, reported}
-use Rattle.ame_app.specs.Standard.{heard_by, faults_of, with_new}
+use Rattle.ame_app.specs.Standard.{told_by, with_new}
 use Rattle.ame_app.proofs.CodeLemmas.{ok-any}
 use Rattle.ame_app.proofs.CompleteLemmas.{answered-turned}
+use Rattle.ame_app.proofs.StandardLemmas.{promised-counts}
 use Rattle.ame_app.proofs.process.run_process.Goals as goal
+
+pub returns-in-Ok-clause-kinds : goal.returns-in-Ok-clause-kinds
+returns-in-Ok-clause-kinds g c = promised-counts _ _ _ _ c.run_words_over.result.devices.items c.in-Ok.ensures refl c.run_words_over.ensures.answered
 
 pub returns-clause-answered : goal.returns-clause-answered
 returns-clause-answered g c =
@@ -24,10 +28,10 @@ returns-clause-answered g c =
     let told = c.turn_away-in-Err-standard_devices.ensures in
     let report = reported r in
     let before = with_new r.devices.len (written c.args.sink) (faults c.args.sink) in
-    let after = ends_of written faults heard_by faults_of r.sink r.devices.items in
+    let after = ends_of written faults told_by r.sink r.devices.items in
     let same = ap (λ (n : ℕ). with_new n (written c.args.sink) (faults c.args.sink))
     (ap (λ v. v.len) told.devices ∙ c.new-in-Err-standard_devices-2.ensures.len)
-    ∙ sym (ap (λ (l : List StandardDevice). ends_of written faults heard_by faults_of c.args.sink l) c.new-in-Err-standard_devices-2.ensures.items) in
+    ∙ sym (ap (λ (l : List StandardDevice). ends_of written faults told_by c.args.sink l) c.new-in-Err-standard_devices-2.ensures.items) in
     let empty = ap (λ v. v.items) told.text ∙ c.new-in-Err-standard_devices.ensures.items in
     let none = ap length empty in
     ok-any c.args.words _ (λ ws. let call = call_of (map string_bytes ws.items) source source 2 in

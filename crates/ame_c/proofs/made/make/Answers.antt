@@ -6,7 +6,7 @@ use Rattle.ame_app.specs.Alone.{command_of}
 use Rattle.ame_app.specs.Answered.{IsPromised}
 use Rattle.ame_app.specs.Calls.{IsCallOf}
 use Rattle.ame_app.specs.Reported.{run_view, reported}
-use Rattle.ame_app.specs.Standard.{heard_by, faults_of}
+use Rattle.ame_app.specs.Standard.{told_by}
 use Rattle.ame_c.specs.Made.{Certifies, Schedules}
 use Rattle.ame_c.proofs.MadeLemmas.{as-ends, new-before, two-devices}
 use Rattle.ame_c.proofs.made.make.Goals as goal
@@ -16,14 +16,14 @@ returns-clause-made c =
     let r = c.run_alone_over-report.result in
     let devices = c.in-Ok.devices in
     let run = option_map run_view r.run in
-    let after = as-ends (Some r.sink.bytes.items) r.sink.faults (all_told heard_by faults_of r.devices.items) in
+    let after = as-ends (Some r.sink.bytes.items) r.sink.faults (all_told told_by r.devices.items) in
     let len = devices.ok.0 in
     let two = two-devices devices.items c.in-Ok.ensures in
     record {
       report = reported r;
       after = after;
       promised = λ call of. subst (λ (e : Ends). IsPromised call (reported r) e after)
-          (new-before (Some c.new.result.bytes.items) c.new.result.faults (all_told heard_by faults_of devices.items) (ap Some c.new.ensures.bytes)
+          (new-before (Some c.new.result.bytes.items) c.new.result.faults (all_told told_by devices.items) (ap Some c.new.ensures.bytes)
           c.new.ensures.faults c.in-Ok.ensures)
           (c.run_alone_over-report.ensures.answered call (subst (λ (n : ℕ). IsCallOf call (command_of c.args.command) c.args.bytes.now n)
           (omega (arith, len, two)) of));

@@ -13,8 +13,8 @@ returns-clause-one_run g c = λ words.
     (call_of (map string_bytes c.args.words.now) (what_is_given g.S.Source.left g.S.Source.faults c.args.source.now)
     (what_is_given g.S.Source.left g.S.Source.faults c.run_words_over.new.source) (vec_len c.args.devices))
     (reported r)
-    (ends_of g.K.Sink.written g.K.Sink.faults g.D.Device.device_heard g.D.Device.device_faults c.args.sink c.args.devices.items)
-    (ends_of g.K.Sink.written g.K.Sink.faults g.D.Device.device_heard g.D.Device.device_faults r.sink r.devices.items)
+    (ends_of g.K.Sink.written g.K.Sink.faults g.D.Device.device_told c.args.sink c.args.devices.items)
+    (ends_of g.K.Sink.written g.K.Sink.faults g.D.Device.device_told r.sink r.devices.items)
     c.run_words_over.ensures.answered words)
 
 pub returns-clause-each_run : goal.returns-clause-each_run
@@ -24,8 +24,8 @@ returns-clause-each_run g c = λ command.
     (call_of (map string_bytes c.args.words.now) (what_is_given g.S.Source.left g.S.Source.faults c.args.source.now)
     (what_is_given g.S.Source.left g.S.Source.faults c.run_words_over.new.source) (vec_len c.args.devices))
     (reported r)
-    (ends_of g.K.Sink.written g.K.Sink.faults g.D.Device.device_heard g.D.Device.device_faults c.args.sink c.args.devices.items)
-    (ends_of g.K.Sink.written g.K.Sink.faults g.D.Device.device_heard g.D.Device.device_faults r.sink r.devices.items)
+    (ends_of g.K.Sink.written g.K.Sink.faults g.D.Device.device_told c.args.sink c.args.devices.items)
+    (ends_of g.K.Sink.written g.K.Sink.faults g.D.Device.device_told r.sink r.devices.items)
     command c.run_words_over.ensures.answered
 
 pub returns-clause-answered : goal.returns-clause-answered

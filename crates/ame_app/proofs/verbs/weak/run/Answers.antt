@@ -19,8 +19,8 @@ use Rattle.ame_app.proofs.verbs.weak.run.Goals as goal
 pub end_or_turns-weak-requires-clause-tells : goal.end_or_turns-weak-requires-clause-tells
 end_or_turns-weak-requires-clause-tells g c =
     let run = c.weak_run-run.result in
-    let old = all_told g.D.Device.device_heard g.D.Device.device_faults c.into_parts-sink.result.1.items in
-    let new = all_told g.D.Device.device_heard g.D.Device.device_faults c.weak_run-run.new.devices.items in
+    let old = all_told g.D.Device.device_told c.into_parts-sink.result.1.items in
+    let new = all_told g.D.Device.device_told c.weak_run-run.new.devices.items in
     let same = ap (λ (a : Accepted). tree_of a.program.term) (c.accepted.ensures ∙ ap (λ (k : FlatCode). k.accepted) c.deref.ensures) in (
       old,
       new,
@@ -30,21 +30,20 @@ end_or_turns-weak-requires-clause-tells g c =
 pub returns : goal.returns
 returns g c =
     let run = c.weak_run-run.result in
-    let heard = g.D.Device.device_heard in
-    let faults = g.D.Device.device_faults in
+    let tell = g.D.Device.device_told in
     let parts = c.into_parts-sink.result in
     let later = c.weak_run-run.new.devices.items in
-    let old = all_told heard faults parts.1.items in
-    let new = all_told heard faults later in
+    let old = all_told tell parts.1.items in
+    let new = all_told tell later in
     let same = ap (λ (a : Accepted). tree_of a.program.term) (c.accepted.ensures ∙ ap (λ (k : FlatCode). k.accepted) c.deref.ensures) in
     let spoken = c.end_or_turns-weak.result in
     let code = arc_value c.args.code.now in
-    let before = ends_of g.K.Sink.written g.K.Sink.faults heard faults parts.0 parts.1.items in
-    let after = ends_of g.K.Sink.written g.K.Sink.faults heard faults parts.0 later in
+    let before = ends_of g.K.Sink.written g.K.Sink.faults tell parts.0 parts.1.items in
+    let after = ends_of g.K.Sink.written g.K.Sink.faults tell parts.0 later in
     let made : IsWeakRunMade c.args.seed c.args.turns code before (Left.Weak spoken.weak) spoken.lines.items after = record {
       weak = spoken.weak;
       left_is = refl;
-      tells = c.end_or_turns-weak.ensures.tells old new (told-count heard faults parts.1.items later c.weak_run-run.ensures.count)
+      tells = c.end_or_turns-weak.ensures.tells old new (told-count tell parts.1.items later c.weak_run-run.ensures.count)
           (subst (λ (p : Tree). TellsStop p c.args.turns run.labels.items run.tries.items run.turns old new run.stop) same c.weak_run-run.ensures.stop);
       drawn = drawn-as (program_of code) c.args.seed c.args.turns run.labels.items run.tries.items run.turns old new run.stop spoken.weak c.end_or_turns-weak.ensures.same
           (subst (λ (p : Tree). TellsStop p c.args.turns run.labels.items run.tries.items run.turns old new run.stop) same c.weak_run-run.ensures.stop)

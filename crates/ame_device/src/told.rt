@@ -8,18 +8,14 @@ pub struct Heard {
     pub answer: i64,
 }
 
-/// The rule by which a device answers. No value of it is made.
+/// The rule by which a device answers: how many calls it answered, the sum of the arguments, or one of its own.
 pub enum DeviceKind {
-    /// Answers how many calls it answered, this one among them.
     Counter,
-    /// Answers the sum of the arguments so far.
     Adder,
-    /// Answers by a rule of its own.
     Other,
 }
 
-/// The view of a device in contracts: its kind, the calls that it heard, if it reports them, and its count of faults.
-/// No value of it is made.
+/// The view of a device in contracts: the calls that it heard, if it reports them, and its count of faults.
 pub struct Told {
     pub kind: DeviceKind,
     pub heard: Option<LinkedList<Heard>>,

@@ -40,8 +40,7 @@ where
     requires few { vec_len devices ≤ max_devices }
     ensures one_run { AskForRun (map string_bytes words.now) → IfSome result.run (λ _.
         IsReadWhole (S.left source.old) (S.left source.new) result.text.items × IsOneRun result.text.items (vec_len devices) []
-        (ends_of K.written K.faults D.device_told sink devices.items)
-        (ends_of K.written K.faults D.device_told result.sink result.devices.items)) }
+        (ends_of K.written K.faults D.device_told sink devices.items) (ends_of K.written K.faults D.device_told result.sink result.devices.items)) }
     ensures each_run { (command : Command) → SpellsCommand (map string_bytes words.now) command → BeginsAnew command → IfSome (reported result).run (λ run.
         IsRunOf command (call_of (map string_bytes words.now)
         (what_is_given S.left S.faults source.old) (what_is_given S.left S.faults source.new) (vec_len devices))

@@ -16,8 +16,8 @@ use Rattle.ame_app.proofs.CompleteLemmas.{answered-turned}
 use Rattle.ame_app.proofs.StandardLemmas.{promised-counts}
 use Rattle.ame_app.proofs.process.run_process.Goals as goal
 
-pub returns-in-Ok-clause-kinds : goal.returns-in-Ok-clause-kinds
-returns-in-Ok-clause-kinds g c = promised-counts _ _ _ _ c.run_words_over.result.devices.items c.in-Ok.ensures refl c.run_words_over.ensures.answered
+pub returns-in-Ok-standard_devices-clause-kinds : goal.returns-in-Ok-standard_devices-clause-kinds
+returns-in-Ok-standard_devices-clause-kinds g c = promised-counts _ _ _ _ c.run_words_over.result.devices.items c.in-Ok-standard_devices.ensures refl c.run_words_over.ensures.answered
 
 pub returns-clause-answered : goal.returns-clause-answered
 returns-clause-answered g c =

@@ -4,7 +4,7 @@ use crate::case::Case;
 use crate::device::Boxed;
 use crate::fault::Fault;
 use crate::told::CaseReport;
-use ame_app::run_words;
+use ame_app::{Alone, run_alone_over, run_words};
 use ame_io::{MemSink, MemSource};
 use ame_worker::Gate;
 use std::alloc::{AllocError, Global};
@@ -56,4 +56,14 @@ where
         return Err(Fault::Line(case.line, "there are at most 16 devices"));
     }
     Ok(run_words(rt, alloc, &words, &mut source, sink, boxes, gate))
+}
+
+/// Returns the report of a command that one thread does, with the text of a case and no devices.
+pub fn report_alone(alloc: Global, case: &Case, command: Alone) -> Result<CaseReport, Fault> {
+    let (_, sink) = ends_of(alloc, case)?;
+    if !command.is_in_range() {
+        return Err(Fault::Line(case.line, "a number is out of its range"));
+    }
+    let boxes: Vec<Boxed> = Vec::new(alloc);
+    Ok(run_alone_over(alloc, command, &case.text, sink, boxes))
 }

@@ -58,7 +58,7 @@ where
 }
 
 /// Returns whether all facts for which a case asks are as they must be.
-fn are_facts_as_told<R: Print + AllocGlobal>(
+pub fn are_facts_as_told<R: Print + AllocGlobal>(
     rt: &R,
     case: &Case,
     workers: Option<&str>,

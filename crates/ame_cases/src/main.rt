@@ -3,6 +3,7 @@
 #![tactic(auto)]
 
 mod agrees;
+mod alone;
 mod call;
 mod case;
 mod device;
@@ -25,6 +26,7 @@ mod tally;
 mod text;
 mod told;
 
+use crate::alone::commands_are_as_words;
 use crate::case::{Case, cases_of};
 use crate::dropped::devices_are_dropped_once;
 use crate::embedded::run_embedded;
@@ -122,6 +124,7 @@ where
     match word {
         "held" => run_check(rt, word, two_are_inside(rt)?),
         "led" => run_check(rt, word, two_are_inside_once_led(rt)?),
+        "alone" => run_check(rt, word, commands_are_as_words(rt)?),
         "dropped" => run_check(rt, word, devices_are_dropped_once(rt)?),
         "embedded" => {
             run_embedded(rt)?;

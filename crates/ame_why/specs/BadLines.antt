@@ -58,6 +58,19 @@ next_part part.Location word = if bytes_eq word (codes "=") then part.Answer els
 next_part part.Answer word = part.End
 next_part part.End word = part.End
 
+-- a line that ends with this word lacks a part
+abbrev pub ends_early : LinePart → List ℕ → Bool
+ends_early part.Steps word = false
+ends_early part.Location word = bytes_eq word (codes "=")
+ends_early part.Answer word = false
+ends_early _ word = true
+
+-- the words for a line that ends with this word, if all its words may stand
+abbrev pub ending : LinePart → List ℕ → List ℕ
+ending part word =
+    if ends_early part word then codes "incomplete line: expected kind, seat, task, steps, then new locations\n"
+    else codes "no error in this line: it has all parts of an entry\n"
+
 -- Each word before a place may stand at its own place, and this part comes next. The flag says that one of them is `free`.
 pub data ReadsTo (line : List ℕ) : ℕ → LinePart → Bool → Type 0 where
   none : ReadsTo line 0 part.Kind false
@@ -66,13 +79,14 @@ pub data ReadsTo (line : List ℕ) : ℕ → LinePart → Bool → Type 0 where
       → ReadsTo line (place + length (word_from line place) + 1) (next_part part (word_from line place))
       (is_free || bytes_eq (word_from line place) (codes "free"))
 
--- An error is at the first word that may not stand at its place, or at the end of a line in which all words may.
+-- An error is at the first word that may not stand at its place, or at the end of a line in which all words may. Such a line lacks a part, or has no
+-- error.
 pub data IsLineError (line : List ℕ) (place : ℕ) (message : List ℕ) : Type 0 where
   word : (part : LinePart) (is_free : Bool) → ReadsTo line place part is_free → (MayStand is_free part (word_from line place) → ⊥)
       → message ≡ wanted part (word_from line place) → IsLineError line place message
   whole : (start : ℕ) (part : LinePart) (is_free : Bool) → ReadsTo line start part is_free → MayStand is_free part (word_from line start)
       → length line ≤ start + length (word_from line start) → place ≡ length line
-      → message ≡ codes "incomplete line: expected kind, seat, task, steps, then new locations\n" → IsLineError line place message
+      → message ≡ ending part (word_from line start) → IsLineError line place message
 
 -- The page shows an error of this line; or it shows the beginning of the line, and that the input has no line `program`.
 pub data ExplainsLine (input : List ℕ) (line : ℕ) (page : List ℕ) : Type 0 where

@@ -57,7 +57,7 @@ fn fault_of(line: &[u8]) -> (usize, &'static [u8])
             return (start, wanted(part, word));
         }
         if word.len() >= line.len() - start {
-            return (line.len(), incomplete());
+            return (line.len(), ending(part, word));
         }
         is_free = is_free || word == b"free".as_slice();
         part = next_part(part, word);
@@ -65,11 +65,26 @@ fn fault_of(line: &[u8]) -> (usize, &'static [u8])
     }
 }
 
-/// Returns the message for a line that ends too early.
-fn incomplete() -> &'static [u8]
-    ensures { result.now ≡ codes "incomplete line: expected kind, seat, task, steps, then new locations\n" }
+/// Returns whether a line that ends with this word lacks a part.
+fn ends_early(part: LinePart, word: &[u8]) -> bool
+    ensures { result ≡ spec.ends_early part word.now }
 {
-    b"incomplete line: expected kind, seat, task, steps, then new locations\n"
+    match part {
+        LinePart::Steps | LinePart::Answer => false,
+        LinePart::Location => word == b"=".as_slice(),
+        LinePart::Kind | LinePart::Seat | LinePart::Member | LinePart::End => true,
+    }
+}
+
+/// Returns the message for a line that ends with this word, if all its words may stand.
+fn ending(part: LinePart, word: &[u8]) -> &'static [u8]
+    ensures { result.now ≡ spec.ending part word.now }
+{
+    if ends_early(part, word) {
+        b"incomplete line: expected kind, seat, task, steps, then new locations\n"
+    } else {
+        b"no error in this line: it has all parts of an entry\n"
+    }
 }
 
 /// Returns whether a word may stand for a part of a line, which has the word `free` before it or not.

@@ -1,7 +1,7 @@
 use Rattle.std.proofs.Common.{◌≡◌, ◌≤◌, ◌+◌, ℕ, List, Bool, ◌||◌, ◌<◌, length, ap, subst, sym, refl, ◌∙◌, arith, rules}
 use Rattle.std.specs.Prelude.{codes}
 use Rattle.std.specs.Str.{bytes_eq}
-use Rattle.ame_why.specs.BadLines.{IsLineError, ReadsTo, MayStand, wanted, next_part}
+use Rattle.ame_why.specs.BadLines.{IsLineError, ReadsTo, MayStand, wanted, ending, next_part}
 use Rattle.ame_why.specs.Words.{word_from}
 use Rattle.ame_why.specs.declared.journal_line.LinePart.{LinePart}
 use Rattle.ame_why.proofs.journal_line.fault_of.Goals.{then-is_free, else-is_free}
@@ -21,7 +21,8 @@ returns-then-word-line-clause-fault c =
     subst (MayStand c.loop-word.is_free c.loop-word.part) c.word_from-word.ensures (c.may_stand.ensures.0 (search rules)) in
     let long : length c.args.line.now ≤ c.loop-word.start + length (word_from c.args.line.now c.loop-word.start) =
     subst (λ (w : List ℕ). length c.args.line.now ≤ c.loop-word.start + length w) c.word_from-word.ensures (grind arith) in
-    IsLineError.whole c.loop-word.start c.loop-word.part c.loop-word.is_free c.loop-word.invariant.1 stands long refl c.incomplete.ensures
+    IsLineError.whole c.loop-word.start c.loop-word.part c.loop-word.is_free c.loop-word.invariant.1 stands long refl
+    (c.ending.ensures ∙ ap (ending c.loop-word.part) c.word_from-word.ensures)
 
 pub loop-word-preserved : goal.loop-word-preserved
 loop-word-preserved c =

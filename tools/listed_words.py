@@ -12,7 +12,7 @@ VIEWS = ("crates/ame_why*/src", "crates/ame_view*/src")
 HELP = "fn told_alone"
 CONSTANT = re.compile(r"const (\w+): u32 = ([\d_]+);")
 BOUNDS = re.compile(r"const (\w+)S: Bounds = Bounds \{\s*least: (\d+),\s*most: (\w+),\s*\};")
-FORM = re.compile(r'Form \{\s*word: "(\w+)",\s*numbers: &\[([^\]]*)\],\s*items: (&\[[^\]]*\]|\w+),\s*\}')
+FORM = re.compile(r'VerbGrammar \{\s*word: "(\w+)",\s*numbers: &\[([^\]]*)\],\s*items: (&\[[^\]]*\]|\w+),\s*\}')
 ITEMS = re.compile(r"const (\w+): &\[Item\] = &\[([^\]]*)\];")
 ITEM = re.compile(r'Item::(\w+) => "(\w+)"')
 DEFAULT = re.compile(r"Item::(\w+) => ([\d_]+)")

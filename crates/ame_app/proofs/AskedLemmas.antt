@@ -9,7 +9,7 @@ use Rattle.ame_cli.specs.declared.command.Command.{Command}
 use Rattle.ame_cli.specs.Grammar.{SpellsCommand, SpellsNothing}
 use Rattle.ame_app.specs.declared.alone.Alone.{Alone}
 use Rattle.ame_app.specs.declared.parts.Front.{Front}
-use Rattle.ame_app.specs.declared.parts.Own.{Own}
+use Rattle.ame_app.specs.declared.parts.ReportPart.{ReportPart}
 use Rattle.ame_app.specs.declared.status.Status.{Status}
 use Rattle.ame_app.specs.Alone.{command_of}
 use Rattle.ame_app.specs.Verbs.{reads_source, TakesInput}
@@ -36,22 +36,22 @@ ok-so (Err e) P Q go h = tt
 
 -- a call without a text is refused
 pub untaken-refusal : (call : Call) (text : Text) (named command : Option Command) (status told : Status) → text ≡ [] → named ≡ command → status ≡ told
-    → RefusalCause call [] [] Own.Nothing told → IsNamed call command told → IsRefusedWith call text named status
+    → RefusalCause call [] [] ReportPart.Nothing told → IsNamed call command told → IsRefusedWith call text named status
 untaken-refusal call text named command status told none name is cause known =
     let len = ap length none in
     record {
-      cause = subst (λ (t : Text). RefusalCause call t [] Own.Nothing status) (sym none) (subst (RefusalCause call [] [] Own.Nothing) (sym is) cause);
+      cause = subst (λ (t : Text). RefusalCause call t [] ReportPart.Nothing status) (sym none) (subst (RefusalCause call [] [] ReportPart.Nothing) (sym is) cause);
       named = subst (λ (o : Option Command). IsNamed call o status) (sym name) (subst (IsNamed call command) (sym is) known);
       most = omega (arith, len);
     }
 
 -- words that give no command are refused, with the status of their failure
 pub words-refused : (words : List (List ℕ)) (source : Given) (devices : ℕ) (text : Text) → text ≡ [] → (fail : CliFail) (status : Status) → status ≡ words_told fail
-    → (fail ≡ CliFail.Usage → SpellsNothing words) → RefusalCause (call_of words source source devices) text [] Own.Nothing status
+    → (fail ≡ CliFail.Usage → SpellsNothing words) → RefusalCause (call_of words source source devices) text [] ReportPart.Nothing status
 words-refused words source devices text none CliFail.Usage status e nothing =
-    subst (RefusalCause (call_of words source source devices) text [] Own.Nothing) (sym e) (by_words none (record { words = nothing refl; source = refl }))
+    subst (RefusalCause (call_of words source source devices) text [] ReportPart.Nothing) (sym e) (by_words none (record { words = nothing refl; source = refl }))
 words-refused words source devices text none CliFail.NoMemory status e nothing =
-    subst (RefusalCause (call_of words source source devices) text [] Own.Nothing) (sym e)
+    subst (RefusalCause (call_of words source source devices) text [] ReportPart.Nothing) (sym e)
     (by_memory (inl none) (record { faults = refl; untouched = λ command spells still. refl }))
 
 -- without a command, the report names none
@@ -67,13 +67,13 @@ module _ (words : List (List ℕ)) (source after : Given) (devices : ℕ) (comma
   reader = record { command = command; spelled = spelled; reads = reads }
 
   pub source-refused : (one : SpellOne) (fail : ReadAllFail) (status : Status) → status ≡ source_told fail
-      → LeftAfter fail source.left after.left → FaultsAfter fail source.faults after.faults → RefusalCause (call_of words source after devices) [] [] Own.Nothing status
+      → LeftAfter fail source.left after.left → FaultsAfter fail source.faults after.faults → RefusalCause (call_of words source after devices) [] [] ReportPart.Nothing status
   source-refused one ReadAllFail.ReadFault status e left faults =
-      subst (RefusalCause (call_of words source after devices) [] [] Own.Nothing) (sym e) (by_source refl (record { reader = reader; faults = faults }))
+      subst (RefusalCause (call_of words source after devices) [] [] ReportPart.Nothing) (sym e) (by_source refl (record { reader = reader; faults = faults }))
   source-refused one ReadAllFail.TooLong status e left faults =
-      subst (RefusalCause (call_of words source after devices) [] [] Own.Nothing) (sym e) (by_length refl (record { reader = reader; given = left; faults = faults }))
+      subst (RefusalCause (call_of words source after devices) [] [] ReportPart.Nothing) (sym e) (by_length refl (record { reader = reader; given = left; faults = faults }))
   source-refused one ReadAllFail.NoMemory status e left faults =
-      subst (RefusalCause (call_of words source after devices) [] [] Own.Nothing) (sym e) (by_memory (inl refl) (record {
+      subst (RefusalCause (call_of words source after devices) [] [] ReportPart.Nothing) (sym e) (by_memory (inl refl) (record {
         faults = faults;
         untouched = λ other spells still. absurd (let same = ap reads_source (one words command other spelled spells) in cc);
       }))
@@ -81,11 +81,11 @@ module _ (words : List (List ℕ)) (source after : Given) (devices : ℕ) (comma
 -- input that the command doesn't take is refused
 pub untaken-refused : (one : SpellOne) (call : Call) (command : Command) (bytes : List ℕ) (status : Status) → SpellsCommand call.words command
     → IsInput (reads_source command) call.source call.source_after bytes → length bytes ≤ whole_limit → IsUntaken command bytes status
-    → RefusalCause call [] [] Own.Nothing status
+    → RefusalCause call [] [] ReportPart.Nothing status
 untaken-refused one call command bytes status spelled input most (inl declines) =
     by_input status refl (record { command = command; spelled = spelled; bytes = bytes; input = input; most = most; declines = declines })
 untaken-refused one call command bytes status spelled input most (inr e) =
-    subst (RefusalCause call [] [] Own.Nothing) (sym e) (by_memory (inl refl) (input-left one call command spelled bytes input))
+    subst (RefusalCause call [] [] ReportPart.Nothing) (sym e) (by_memory (inl refl) (input-left one call command spelled bytes input))
 
 -- not as a fault of the sink
 pub untaken-other : (command : Command) (bytes : List ℕ) (status : Status) → IsUntaken command bytes status → status ≢ Status.WriteFault
@@ -114,17 +114,17 @@ module _ (alone : Alone) (bytes : List ℕ) (devices : ℕ) (call : Call) (of : 
   }
 
   pub bytes-untaken : SpellOne → length bytes ≤ whole_limit → (status : Status) → IsUntaken (command_of alone) bytes status
-      → RefusalCause call [] [] Own.Nothing status
+      → RefusalCause call [] [] ReportPart.Nothing status
   bytes-untaken one most status untaken = untaken-refused one call (command_of alone) bytes status of.spelled (input-of most) most untaken
 
-  pub bytes-long : whole_limit < length bytes → RefusalCause call [] [] Own.Nothing Status.TooLong
+  pub bytes-long : whole_limit < length bytes → RefusalCause call [] [] ReportPart.Nothing Status.TooLong
   bytes-long long = by_length refl (record {
     reader = record { command = command_of alone; spelled = of.spelled; reads = reads-alone alone };
     given = of.read.more long;
     faults = of.read.faults;
   })
 
-  pub bytes-lack : SpellOne → RefusalCause call [] [] Own.Nothing Status.NoMemory
+  pub bytes-lack : SpellOne → RefusalCause call [] [] ReportPart.Nothing Status.NoMemory
   bytes-lack one = by_memory (inl refl) (record {
     faults = of.read.faults;
     untouched = λ other spells still. absurd (

@@ -7,7 +7,7 @@ use Rattle.ame_journal.specs.Text.{IsText, IsFirstBadLine}
 use Rattle.ame_journal.proofs.UniqueLemmas.{text_of-same, not_bad, one_bad}
 use Rattle.ame_app.proofs.JudgedLemmas.{split-same, invalid-one, invalid-leads, long-one, long-short}
 use Rattle.ame_app.specs.declared.parts.Front.{Front}
-use Rattle.ame_app.specs.declared.parts.Own.{Own}
+use Rattle.ame_app.specs.declared.parts.ReportPart.{ReportPart}
 use Rattle.ame_app.specs.declared.status.Status.{Status}
 use Rattle.ame_app.specs.Verbs.Check.{TakesCertificate, HasNoProgram, HasBadEntry, HasNoCertificate, entries_before, TellsOfJournal}
 
@@ -54,7 +54,7 @@ pub bad-other : (bytes : List ℕ) (told : Status) → HasNoCertificate bytes to
 bad-other bytes told none = λ e. absurd (let clash : Status.BadJournal none.line ≡ Status.WriteFault = sym none.told_is ∙ e in cc)
 
 -- a journal has one status
-pub journal-one : (program : Tree) (entries : List Entry) (ahead more : List ℕ) (own also : Own) (told other : Status)
+pub journal-one : (program : Tree) (entries : List Entry) (ahead more : List ℕ) (own also : ReportPart) (told other : Status)
     → TellsOfJournal program entries ahead own told → TellsOfJournal program entries more also other → told ≡ other
 journal-one program entries ahead more own also (Status.Valid n) (Status.Valid m) one two = ap Status.Valid (one.count ∙ sym two.count)
 journal-one program entries ahead more own also (Status.Valid n) (Status.Invalid m) one two =
@@ -74,7 +74,7 @@ journal-one program entries ahead more own also (Status.LongJournal n) other one
 journal-one program entries ahead more own also told other one two = absurd one
 
 -- the status of a journal is no fault of the sink
-pub journal-other : (program : Tree) (entries : List Entry) (ahead : List ℕ) (own : Own) (told : Status) → TellsOfJournal program entries ahead own told
+pub journal-other : (program : Tree) (entries : List Entry) (ahead : List ℕ) (own : ReportPart) (told : Status) → TellsOfJournal program entries ahead own told
     → told ≢ Status.WriteFault
 journal-other program entries ahead own Status.WriteFault tells = absurd tells
 journal-other program entries ahead own told tells = λ e. absurd (cc)

@@ -7,7 +7,7 @@ use Rattle.ame_lex.specs.Reading.{tokens_of, AnswersTokens}
 use Rattle.ame_parse.specs.Text.{ReadingFault, reading, reading_by}
 use Rattle.ame_cli.specs.declared.command.Command.{Command}
 use Rattle.ame_app.specs.declared.parts.Front.{Front}
-use Rattle.ame_app.specs.declared.parts.Own.{Own}
+use Rattle.ame_app.specs.declared.parts.ReportPart.{ReportPart}
 use Rattle.ame_app.specs.declared.status.Status.{Status}
 use Rattle.ame_app.specs.Calls.{Call, Asks}
 use Rattle.ame_app.specs.Causes.{RefusalCause}
@@ -30,7 +30,7 @@ bytes-faulty text devices (LexFault.LongNumber place) status e none =
 
 -- a call that asked for such a text is refused
 pub text-refused : (one : SpellOne) (call : Call) (command : Command) (front : Front) (text : Text) → Asks call command front text
-    → (status : Status) → IsTextStatus text call.devices status → RefusalCause call text [] Own.Nothing status
+    → (status : Status) → IsTextStatus text call.devices status → RefusalCause call text [] ReportPart.Nothing status
 text-refused one call command front text asked (Status.Text fault) none =
     by_text fault (record { command = command; front = front; asked = asked; cause = none })
 text-refused one call command front text asked (Status.Types fault) ill =

@@ -28,10 +28,10 @@ use Rattle.ame_shell.specs.Ends.{Ends, told_at}
 use Rattle.ame_shell.specs.Heard.{HaveFailed}
 use Rattle.ame_app.specs.declared.fault.TextFault.{TextFault}
 use Rattle.ame_app.specs.declared.parts.Front.{Front}
-use Rattle.ame_app.specs.declared.parts.Own.{Own}
+use Rattle.ame_app.specs.declared.parts.ReportPart.{ReportPart}
 use Rattle.ame_app.specs.declared.status.Status.{Status}
 use Rattle.ame_app.specs.Verbs.{reads_source, TakesInput, Declines, Settles, options_of, written_behind}
-use Rattle.ame_app.specs.Left.{end_in}
+use Rattle.ame_app.specs.RunResult.{end_in}
 use Rattle.ame_app.specs.Reported.{RunView, Reported}
 use Rattle.ame_app.specs.Calls.{Call, Given, Asks}
 use Rattle.ame_app.specs.Texts.{why_of, IsNoProgram, IsIllTyped, IsAcceptedText}
@@ -101,10 +101,10 @@ data Due (command : Command) (bytes : List ℕ) (devices : ℕ) (status : Status
       → length bytes ≤ whole_limit → Due command bytes devices status
   is_refused : (front : Front) (text : Text) (fault : TypeFault) → status ≡ Status.Types fault → TakesInput command bytes front text
       → IsIllTyped text devices fault → length bytes ≤ whole_limit → Due command bytes devices status
-  is_settled : (front : Front) (text : Text) (good : IsAcceptedText text devices) (ahead : List ℕ) (own : Own) → Settles command front good.source.tree ahead own status
+  is_settled : (front : Front) (text : Text) (good : IsAcceptedText text devices) (ahead : List ℕ) (own : ReportPart) → Settles command front good.source.tree ahead own status
       → TakesInput command bytes front text → length bytes ≤ whole_limit → Due command bytes devices status
   is_run : (front : Front) (text : Text) (good : IsAcceptedText text devices) → TellsEndWith (options_of command) status
-      → ((ahead : List ℕ) (own : Own) (told : Status) → Settles command front good.source.tree ahead own told → ⊥)
+      → ((ahead : List ℕ) (own : ReportPart) (told : Status) → Settles command front good.source.tree ahead own told → ⊥)
       → TakesInput command bytes front text → length bytes ≤ whole_limit → Due command bytes devices status
   lacks : status ≡ Status.NoMemory → Due command bytes devices status
 
@@ -189,13 +189,13 @@ module _ (command : Command) (bytes : List ℕ) (devices : ℕ) (status : Status
 
     module _ (good : IsAcceptedText text devices) where
       -- a status of one program is that of the other
-      here : (f : Front) (t : Text) (again : TakesInput command bytes f t) (other : IsAcceptedText t devices) (ahead : List ℕ) (own : Own) (told : Status)
+      here : (f : Front) (t : Text) (again : TakesInput command bytes f t) (other : IsAcceptedText t devices) (ahead : List ℕ) (own : ReportPart) (told : Status)
           → Settles command f other.source.tree ahead own told → Settles command front good.source.tree ahead own told
       here f t again other ahead own told settles =
           settles-same command bytes f front t text again takes good.source.tree ahead own told
           (subst (λ (s : Source). Settles command f s.tree ahead own told) (read-same t text devices (same f t again) other good) settles)
 
-      there : (f : Front) (t : Text) (again : TakesInput command bytes f t) (other : IsAcceptedText t devices) (ahead : List ℕ) (own : Own) (told : Status)
+      there : (f : Front) (t : Text) (again : TakesInput command bytes f t) (other : IsAcceptedText t devices) (ahead : List ℕ) (own : ReportPart) (told : Status)
           → Settles command front good.source.tree ahead own told → Settles command f other.source.tree ahead own told
       there f t again other ahead own told settles =
           settles-same command bytes front f text t takes again other.source.tree ahead own told
@@ -213,7 +213,7 @@ module _ (command : Command) (bytes : List ℕ) (devices : ℕ) (status : Status
       due-accepted (is_run f t other run never again most) = inr run
       due-accepted (lacks e) = inr (subst (TellsEndWith (options_of command)) (sym e) (memory-ends (options_of command)))
 
-      due-settled : (ahead : List ℕ) (own : Own) (told : Status) → Settles command front good.source.tree ahead own told
+      due-settled : (ahead : List ℕ) (own : ReportPart) (told : Status) → Settles command front good.source.tree ahead own told
           → Due command bytes devices status → IsUnlessMemory told status
       due-settled ahead own told settles (is_long e long) = absurd (omega (arith, short, long))
       due-settled ahead own told settles (is_declined d most) = absurd (takes-none command bytes front text status takes d)
@@ -234,7 +234,7 @@ asked-stays call command front text asked =
     input-stays (reads_source command) call.source call.source_after asked.text_is.bytes asked.text_is.input
 
 module _ (one : SpellOne) (call : Call) (report : Text) where
-  usage-refusal : (ahead : List ℕ) (own : Own) (told : Status) → SpellsNothing call.words → RefusalCause call report ahead own told → IsUnlessMemory Status.Usage told
+  usage-refusal : (ahead : List ℕ) (own : ReportPart) (told : Status) → SpellsNothing call.words → RefusalCause call report ahead own told → IsUnlessMemory Status.Usage told
   usage-refusal ahead own told nothing (by_words none u) = inl refl
   usage-refusal ahead own told nothing (by_source none r) = absurd (nothing r.reader.command r.reader.spelled)
   usage-refusal ahead own told nothing (by_length none long) = absurd (nothing long.reader.command long.reader.spelled)
@@ -244,7 +244,7 @@ module _ (one : SpellOne) (call : Call) (report : Text) where
   usage-refusal ahead own told nothing (by_program bytes held other s) = absurd (nothing s.command s.asked.spelled)
   usage-refusal ahead own told nothing (by_memory text_is c) = inr refl
 
-  text-refusal : (ahead : List ℕ) (own : Own) (told : Status) (command : Command) → SpellsCommand call.words command
+  text-refusal : (ahead : List ℕ) (own : ReportPart) (told : Status) (command : Command) → SpellsCommand call.words command
       → HasNotRisen call.source.faults call.source_after.faults → RefusalCause call report ahead own told → TellsInput command told
   text-refusal ahead own told command spelled still (by_words none u) = absurd (u.words command spelled)
   text-refusal ahead own told command spelled still (by_source none r) = absurd (HasNotRisen-excludes call.source.faults call.source_after.faults still r.faults)
@@ -259,7 +259,7 @@ module _ (one : SpellOne) (call : Call) (report : Text) where
       inr (inr (s.front, tree, inl (bytes, held, settles)))
   text-refusal ahead own told command spelled still (by_memory text_is c) = inl tt
 
-  source-refusal : (ahead : List ℕ) (own : Own) (told : Status) → call.source.faults < call.source_after.faults → RefusalCause call report ahead own told → told ≡ Status.ReadFault
+  source-refusal : (ahead : List ℕ) (own : ReportPart) (told : Status) → call.source.faults < call.source_after.faults → RefusalCause call report ahead own told → told ≡ Status.ReadFault
   source-refusal ahead own told rises (by_words none u) = absurd (let stayed = ap (λ (g : Given). g.faults) u.source in omega (arith, stayed, rises))
   source-refusal ahead own told rises (by_source none r) = refl
   source-refusal ahead own told rises (by_length none long) = absurd (let stayed = long.faults in omega (arith, stayed, rises))
@@ -302,7 +302,7 @@ module _ (call : Call) (before after : Ends) (n : NothingFailed call before afte
   run-told (Command.Weak seed turns) told options end r c = weak-told seed turns told options end r c
 
 module _ (one : SpellOne) (call : Call) (before after : Ends) (n : NothingFailed call before after) (bytes : List ℕ) (given : IsGivenBytes call bytes) where
-  due-refusal : (report : Text) (ahead : List ℕ) (own : Own) (told : Status) → RefusalCause call report ahead own told → Due given.command bytes call.devices told
+  due-refusal : (report : Text) (ahead : List ℕ) (own : ReportPart) (told : Status) → RefusalCause call report ahead own told → Due given.command bytes call.devices told
   due-refusal report ahead own told (by_words none u) = absurd (u.words given.command given.spelled)
   due-refusal report ahead own told (by_source none r) = absurd (HasNotRisen-excludes call.source.faults call.source_after.faults n.source r.faults)
   due-refusal report ahead own told (by_length none long) = is_long refl (given-more one call bytes given whole_limit long.reader long.given)
@@ -358,7 +358,7 @@ module _ (one : SpellOne) (call : Call) (status : Status) (before after : Ends)
   told-accepted n text g good = due-accepted g.given.command g.bytes call.devices status g.most g.front text g.takes good (due n g.bytes g.given)
 
   told-settled : NothingFailed call before after → (text : Text) (g : IsGivenText call text) (good : IsAcceptedText text call.devices)
-      → (ahead : List ℕ) (own : Own) (told : Status) → Settles g.given.command g.front good.source.tree ahead own told → IsUnlessMemory told status
+      → (ahead : List ℕ) (own : ReportPart) (told : Status) → Settles g.given.command g.front good.source.tree ahead own told → IsUnlessMemory told status
   told-settled n text g good ahead own told settles =
       due-settled g.given.command g.bytes call.devices status g.most g.front text g.takes good ahead own told settles (due n g.bytes g.given)
 

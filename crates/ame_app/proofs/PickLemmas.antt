@@ -22,8 +22,8 @@ use Rattle.ame_shell.specs.Ends.{Ends}
 use Rattle.ame_sim.specs.declared.made.Made.{Made}
 use Rattle.ame_sim.specs.Picks.{picked_by, picks_of}
 use Rattle.ame_sim.specs.Run.{AreTold, IsPlayed}
-use Rattle.ame_app.specs.declared.left.Extra.{Extra}
-use Rattle.ame_app.specs.declared.left.Left.{Left}
+use Rattle.ame_app.specs.declared.run_result.Extra.{Extra}
+use Rattle.ame_app.specs.declared.run_result.RunResult.{RunResult}
 use Rattle.ame_app.specs.Fragments.{fragments}
 use Rattle.ame_app.specs.Headline.{limits_of}
 use Rattle.ame_app.specs.Verbs.Sim.{opening_of, IsPicked}
@@ -82,7 +82,7 @@ module _ (limits : Limits) (before : Ends) (strategy later : List (List ℕ) →
   -- the picks of a run that was played are those of the strategy that answered
   pub played-picked : (code : FlatCode) → IsPlayed fragments (opening_of code limits before) mades end
       → PicksSeats strategy (questions limits.seats (picks_of mades)) (seats_of (picks_of mades)) later
-      → IsPicked strategy code limits before (Left.Engine end extra)
+      → IsPicked strategy code limits before (RunResult.Engine end extra)
   played-picked code played answers = record {
     mades = mades;
     extra_is = ap Some is;
@@ -97,7 +97,7 @@ module _ (limits : Limits) (before : Ends) (strategy later : List (List ℕ) →
   pub picked-with : (options : Options) (code share : FlatCode) → share ≡ code → limits ≡ limits_of options
       → IsPlayed fragments (opening_of share limits before) mades end
       → PicksSeats strategy (questions limits.seats (picks_of mades)) (seats_of (picks_of mades)) later
-      → IsPicked strategy code (limits_of options) before (Left.Engine end extra)
+      → IsPicked strategy code (limits_of options) before (RunResult.Engine end extra)
   picked-with options code share same asked played answers =
-      subst (λ (k : FlatCode). IsPicked strategy k (limits_of options) before (Left.Engine end extra)) same
-      (subst (λ (l : Limits). IsPicked strategy share l before (Left.Engine end extra)) asked (played-picked share played answers))
+      subst (λ (k : FlatCode). IsPicked strategy k (limits_of options) before (RunResult.Engine end extra)) same
+      (subst (λ (l : Limits). IsPicked strategy share l before (RunResult.Engine end extra)) asked (played-picked share played answers))

@@ -13,7 +13,7 @@ use Rattle.ame_journal.specs.Replay.{replay}
 use Rattle.ame_journal.specs.Totals.{is_note, without_notes}
 use Rattle.ame_journal.proofs.NoteLemmas.{notes-dropped}
 use Rattle.ame_protocol.specs.declared.types.Limits.{Limits}
-use Rattle.ame_protocol.specs.Event.State.{State}
+use Rattle.ame_protocol.specs.Event.EngineState.{EngineState}
 use Rattle.ame_check.specs.Judge.{LeadsTo, IsTooHighAt, IsTallAt}
 use Rattle.ame_code.specs.FlatCode.{FlatCode}
 use Rattle.ame_code.specs.Code.{program_of}
@@ -26,7 +26,7 @@ use Rattle.ame_engine.specs.Resuming.{AreActs, IsFar, HasResumed}
 use Rattle.ame_engine.specs.declared.resume_fail.ResumeFail.{ResumeFail}
 use Rattle.ame_engine.proofs.FarLemmas.{far-once}
 use Rattle.ame_app.specs.declared.parts.Front.{Front}
-use Rattle.ame_app.specs.declared.parts.Own.{Own}
+use Rattle.ame_app.specs.declared.parts.ReportPart.{ReportPart}
 use Rattle.ame_app.specs.declared.status.Status.{Status}
 use Rattle.ame_app.specs.Headline.{limits_of}
 use Rattle.ame_app.specs.Fragments.{fragments}
@@ -63,7 +63,7 @@ end-is entries entry last is =
 -- if the entry that passes a form nested too deeply is no note, that is the status
 pub tells-tall : (program : Tree) (entries : List Entry) (place : ℕ) (last : Entry) → IsTallAt program entries place
     → slice_get (take place entries) (length (take place entries) - 1) ≡ Some last → is_note last.kind ≡ false
-    → (ahead : List ℕ) (own : Own) (told : Status) → ahead ≡ [] → own ≡ Own.Nothing → told ≡ Status.TallJournal (length (without_notes (take place entries)))
+    → (ahead : List ℕ) (own : ReportPart) (told : Status) → ahead ≡ [] → own ≡ ReportPart.Nothing → told ≡ Status.TallJournal (length (without_notes (take place entries)))
     → TellsOfBase program entries ahead own told
 tells-tall program entries place last tall is note ahead own told ahead_is own_is told_is =
     let passes = tall.there.passes in
@@ -87,8 +87,8 @@ near-where (Err e) base far = tt
 pub own-resumed : (options : Options) (base : List Entry) (code : FlatCode) (engine : Core FlatCode Val Fragment) → IsEngineOn options base code engine
     → HasResumed fragments engine.limits engine.base engine
 own-resumed options base code engine on =
-    let same_limits : engine.limits ≡ limits_of options = ap (λ (s : State). s.parts.limits) on.resumed.state in
-    let same_base : engine.base ≡ base = ap (λ (s : State). s.parts.base) on.resumed.state in
+    let same_limits : engine.limits ≡ limits_of options = ap (λ (s : EngineState). s.parts.limits) on.resumed.state in
+    let same_base : engine.base ≡ base = ap (λ (s : EngineState). s.parts.base) on.resumed.state in
     subst (λ (l : Limits). HasResumed fragments l engine.base engine) (sym same_limits)
     (subst (λ (es : List Entry). HasResumed fragments (limits_of options) es engine) (sym same_base) on.resumed)
 
@@ -98,8 +98,8 @@ pub goes-on : (options : Options) (front : Front) (code : FlatCode) (limits : Li
     → LeadsTo (program_of code) (entries_before front) output → ((n : ℕ) → IsFar base n → ⊥)
     → engine.code ≡ code → HasResumed fragments limits base engine → IsOpened (Command.Resume options) front code engine
 goes-on options front code limits base output engine limits_is base_is leads near code_is resumed =
-    let same_limits : engine.limits ≡ limits = ap (λ (s : State). s.parts.limits) resumed.state in
-    let same_base : engine.base ≡ base = ap (λ (s : State). s.parts.base) resumed.state in
+    let same_limits : engine.limits ≡ limits = ap (λ (s : EngineState). s.parts.limits) resumed.state in
+    let same_base : engine.base ≡ base = ap (λ (s : EngineState). s.parts.base) resumed.state in
     record {
       options = options;
       command_is = refl;
@@ -122,12 +122,12 @@ module _ (program : Tree) (entries : List Entry) where
   high-one : (m n : ℕ) → IsTooHighAt program entries m → IsTooHighAt program entries n → m ≡ n
   high-one m n one two = one-number m n (λ below. two.first m below one.passes) (λ above. one.first n above two.passes)
 
-  tall-one : (ahead more : List ℕ) (own also : Own) (m n : ℕ) → IsTallJournal program entries ahead own m → IsTallJournal program entries more also n → m ≡ n
+  tall-one : (ahead more : List ℕ) (own also : ReportPart) (m n : ℕ) → IsTallJournal program entries ahead own m → IsTallJournal program entries more also n → m ≡ n
   tall-one ahead more own also m n one two =
       one.count ∙ ap (λ (k : ℕ). length (without_notes (take k entries))) (high-one one.place two.place one.tall.there two.tall.there) ∙ sym two.count
 
   -- a journal has one status
-  pub base-one : (ahead more : List ℕ) (own also : Own) (told other : Status) → TellsOfBase program entries ahead own told
+  pub base-one : (ahead more : List ℕ) (own also : ReportPart) (told other : Status) → TellsOfBase program entries ahead own told
       → TellsOfBase program entries more also other → told ≡ other
   base-one ahead more own also (Status.Invalid n) (Status.Invalid m) one two =
       ap Status.Invalid (invalid-one program entries n m one.why two.why one.invalid two.invalid)
@@ -155,12 +155,12 @@ module _ (program : Tree) (entries : List Entry) where
   base-one ahead more own also told other one two = absurd one
 
   -- the status of a journal is no fault of the sink
-  pub base-other : (ahead : List ℕ) (own : Own) (told : Status) → TellsOfBase program entries ahead own told → told ≢ Status.WriteFault
+  pub base-other : (ahead : List ℕ) (own : ReportPart) (told : Status) → TellsOfBase program entries ahead own told → told ≢ Status.WriteFault
   base-other ahead own Status.WriteFault tells = absurd tells
   base-other ahead own told tells = λ e. absurd (cc)
 
   -- a journal from which a run goes on has no status without a run
-  pub base-unsettled : (base : List Entry) → BeginsFromActs program entries base → (ahead : List ℕ) (own : Own) (told : Status)
+  pub base-unsettled : (base : List Entry) → BeginsFromActs program entries base → (ahead : List ℕ) (own : ReportPart) (told : Status)
       → TellsOfBase program entries ahead own told → ⊥
   base-unsettled base begins ahead own (Status.Invalid n) tells = invalid-leads program entries n tells.why begins.output tells.invalid begins.leads
   base-unsettled base begins ahead own (Status.LongJournal n) tells = long-short entries n tells.long begins.leads.short

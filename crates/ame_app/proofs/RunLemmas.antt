@@ -35,14 +35,14 @@ use Rattle.ame_device.specs.declared.told.Told.{Told}
 use Rattle.ame_shell.specs.Heard.{HaveHeardSince, HaveFailed}
 use Rattle.ame_shell.specs.Ran.{IsRanBy}
 use Rattle.ame_app.specs.declared.parts.Front.{Front}
-use Rattle.ame_app.specs.declared.parts.Own.{Own}
-use Rattle.ame_app.specs.declared.left.Extra.{Extra}
-use Rattle.ame_app.specs.declared.left.Left.{Left}
-use Rattle.ame_app.specs.declared.left.WeakEnd.{WeakEnd}
+use Rattle.ame_app.specs.declared.parts.ReportPart.{ReportPart}
+use Rattle.ame_app.specs.declared.run_result.Extra.{Extra}
+use Rattle.ame_app.specs.declared.run_result.RunResult.{RunResult}
+use Rattle.ame_app.specs.declared.run_result.WeakEnd.{WeakEnd}
 use Rattle.ame_app.specs.declared.status.Status.{Status}
 use Rattle.ame_app.specs.Calls.{Call}
 use Rattle.ame_app.specs.Causes.{status_at, status_of, RunCause, CommandCause}
-use Rattle.ame_app.specs.Left.{end_in, extra_in}
+use Rattle.ame_app.specs.RunResult.{end_in, extra_in}
 use Rattle.ame_app.specs.Reported.{RunView, Reported}
 use Rattle.ame_app.specs.Headline.{limits_of, Headline, DevicesTell, DevicesTellOf, IsNotedOnceBy, IsRanOf, ShowsTurns, journal_of, verdict_of, IsWritten}
 use Rattle.ame_app.specs.Jobs.{IsJobOf, HasWeakStop, TellsWeakly, IsLeftOf, HasLeft, IsEngineRunMade, IsWeakRunMade, IsRunMade, Speaks, SpeaksBehind, SpeaksAfter}
@@ -107,25 +107,25 @@ record IsPlain (code : FlatCode) (command : Command) (end : End Val) (before aft
 -- The headline
 
 -- the bytes written after the lines of a run that an engine made
-speaks-engine : (left : Left) (extra : Extra) (ahead : List ℕ) (told : Status) (text : List ℕ) (status : Status) (a : Option (List ℕ)) (m : ℕ) (b : Option (List ℕ)) (n : ℕ)
+speaks-engine : (left : RunResult) (extra : Extra) (ahead : List ℕ) (told : Status) (text : List ℕ) (status : Status) (a : Option (List ℕ)) (m : ℕ) (b : Option (List ℕ)) (n : ℕ)
     → extra_in left ≡ Some extra → SpeaksAfter left ahead told text status a m b n → SpeaksBehind (end_in left).stop told text status a m b n
-speaks-engine (Left.Engine end more) extra ahead told text status a m b n is speaks = speaks
-speaks-engine (Left.Weak weak) extra ahead told text status a m b n is speaks = absurd (cc)
+speaks-engine (RunResult.Engine end more) extra ahead told text status a m b n is speaks = speaks
+speaks-engine (RunResult.Weak weak) extra ahead told text status a m b n is speaks = absurd (cc)
 
 -- the report's view of a run
-abbrev pub run_with : FlatCode → Left → RunView
+abbrev pub run_with : FlatCode → RunResult → RunView
 run_with code left = record { code = code; left = left }
 
-abbrev pub report_with : Status → Text → FlatCode → Command → Left → Reported
+abbrev pub report_with : Status → Text → FlatCode → Command → RunResult → Reported
 report_with status text code command left =
-    record { status = status; text = text; command = Some command; run = Some (run_with code left); own = Own.Nothing }
+    record { status = status; text = text; command = Some command; run = Some (run_with code left); own = ReportPart.Nothing }
 
 module _ (call : Call) (status : Status) (text : Text) (code : FlatCode) (front : Front) (before mid after : Ends) (kept : after.told ≡ mid.told) where
   -- the bytes to be written after the lines
-  abbrev more : Command → Left → List ℕ
+  abbrev more : Command → RunResult → List ℕ
   more command left = verdict_of (end_in left) ++ written_behind command left (status_of (end_in left))
 
-  module _ (command : Command) (left : Left) (job : IsJobOf call text code command front) (made : IsEngineRunMade command front code before left mid)
+  module _ (command : Command) (left : RunResult) (job : IsJobOf call text code command front) (made : IsEngineRunMade command front code before left mid)
       (plain : IsPlain code command (end_in left) before after)
       (speaks : SpeaksBehind (end_in left).stop (status_of (end_in left)) (more command left) status mid.written mid.write_faults after.written after.write_faults) where
     abbrev end : End Val
@@ -202,10 +202,10 @@ module _ (call : Call) (status : Status) (text : Text) (code : FlatCode) (front 
       (tells : TellsWeakly (program_of code) turns weakened before.told mid.told)
       (drawn : weakened.stop ≢ Stop.NoMemory → IsDrawnAs (program_of code) seed turns weakened) (has_left : HasLeft code (limits_of (alone_with turns)) weakened)
       (ahead_is : ahead ≡ lines weakened.output.items) (unwritten : mid.written ≡ before.written) (unfailed : mid.write_faults ≡ before.write_faults)
-      (speaks : Speaks (status_of (end_in (Left.Weak weakened))) (ahead ++ (verdict_of (end_in (Left.Weak weakened)) ++ [])) status mid.written mid.write_faults
+      (speaks : Speaks (status_of (end_in (RunResult.Weak weakened))) (ahead ++ (verdict_of (end_in (RunResult.Weak weakened)) ++ [])) status mid.written mid.write_faults
       after.written after.write_faults) where
-    abbrev weak_left : Left
-    weak_left = Left.Weak weakened
+    abbrev weak_left : RunResult
+    weak_left = RunResult.Weak weakened
 
     abbrev weak_end : End Val
     weak_end = end_in weak_left
@@ -303,20 +303,20 @@ module _ (call : Call) (status : Status) (text : Text) (code : FlatCode) (front 
     }
 
   -- the bytes written after the run of a command
-  abbrev pub Spoken : Command → Left → List ℕ → Type 0
+  abbrev pub Spoken : Command → RunResult → List ℕ → Type 0
   Spoken command left ahead =
       SpeaksAfter left ahead (status_of (end_in left)) (more command left) status mid.written mid.write_faults after.written after.write_faults
 
-  weak-told : (seed turns : ℕ) (left : Left) (ahead : List ℕ) → IsJobOf call text code (Command.Weak seed turns) front
+  weak-told : (seed turns : ℕ) (left : RunResult) (ahead : List ℕ) → IsJobOf call text code (Command.Weak seed turns) front
       → (made : IsWeakRunMade seed turns code before left ahead mid) → Spoken (Command.Weak seed turns) left ahead
       → Headline call (report_with status text code (Command.Weak seed turns) left) (run_with code left) (end_in left) before after
   weak-told seed turns left ahead job made speaks =
-      subst (λ (l : Left). Headline call (report_with status text code (Command.Weak seed turns) l) (run_with code l) (end_in l) before after) (sym made.left_is)
+      subst (λ (l : RunResult). Headline call (report_with status text code (Command.Weak seed turns) l) (run_with code l) (end_in l) before after) (sym made.left_is)
       (weak-headline seed turns made.weak ahead job made.tells made.drawn made.has_left made.ahead_is made.unwritten made.unfailed
-      (subst (λ (l : Left). Spoken (Command.Weak seed turns) l ahead) made.left_is speaks))
+      (subst (λ (l : RunResult). Spoken (Command.Weak seed turns) l ahead) made.left_is speaks))
 
   -- a command whose run an engine makes, with something next to the engine's end
-  engine-told : (command : Command) (left : Left) (extra : Extra) (ahead : List ℕ) → IsJobOf call text code command front
+  engine-told : (command : Command) (left : RunResult) (extra : Extra) (ahead : List ℕ) → IsJobOf call text code command front
       → IsEngineRunMade command front code before left mid → extra_in left ≡ Some extra → IsPlain code command (end_in left) before after → Spoken command left ahead
       → Headline call (report_with status text code command left) (run_with code left) (end_in left) before after
   engine-told command left extra ahead job made is plain speaks =
@@ -324,7 +324,7 @@ module _ (call : Call) (status : Status) (text : Text) (code : FlatCode) (front 
       (speaks-engine left extra ahead (status_of (end_in left)) (more command left) status mid.written mid.write_faults after.written after.write_faults is speaks)
 
   -- each command
-  pub headline : (command : Command) (left : Left) (ahead : List ℕ) → IsJobOf call text code command front → IsRunMade command front code before left ahead mid
+  pub headline : (command : Command) (left : RunResult) (ahead : List ℕ) → IsJobOf call text code command front → IsRunMade command front code before left ahead mid
       → Spoken command left ahead → Headline call (report_with status text code command left) (run_with code left) (end_in left) before after
   headline (Command.Run options) left ahead job made speaks =
       engine-told (Command.Run options) left _ ahead job made made.own_is (record { devices = λ d. d; cause = λ o r c. c; once = λ n. n; shown = λ l s. s; ran = λ l r. r }) speaks
@@ -344,7 +344,7 @@ module _ (call : Call) (status : Status) (text : Text) (code : FlatCode) (front 
   headline (Command.Weak seed turns) left ahead job made speaks = weak-told seed turns left ahead job made speaks
 
 -- if the status is that of the end, so are the bytes written
-pub told-of : (left : Left) (ahead : List ℕ) (told : Status) (more : Status → List ℕ) (status : Status) (a : Option (List ℕ)) (m : ℕ) (b : Option (List ℕ)) (n : ℕ)
+pub told-of : (left : RunResult) (ahead : List ℕ) (told : Status) (more : Status → List ℕ) (status : Status) (a : Option (List ℕ)) (m : ℕ) (b : Option (List ℕ)) (n : ℕ)
     → told ≡ status_of (end_in left) → SpeaksAfter left ahead told (more told) status a m b n
     → SpeaksAfter left ahead (status_of (end_in left)) (more (status_of (end_in left))) status a m b n
 told-of left ahead told more status a m b n is speaks = subst (λ (t : Status). SpeaksAfter left ahead t (more t) status a m b n) is speaks

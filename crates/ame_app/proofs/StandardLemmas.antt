@@ -16,7 +16,7 @@ use Rattle.ame_shell.specs.Ends.{Ends}
 use Rattle.ame_shell.specs.Heard.{HaveHeardSince}
 use Rattle.ame_app.specs.declared.standard.StandardDevice.{StandardDevice}
 use Rattle.ame_app.specs.Calls.{Call}
-use Rattle.ame_app.specs.Left.{end_in}
+use Rattle.ame_app.specs.RunResult.{end_in}
 use Rattle.ame_app.specs.Reported.{RunView, Reported}
 use Rattle.ame_app.specs.Headline.{Headline, DevicesTell, DevicesTellOf}
 use Rattle.ame_app.specs.Answered.{IsPromised}

@@ -7,7 +7,7 @@ use Rattle.ame_code.specs.Code.{program_of}
 use Rattle.ame_cli.specs.declared.command.Command.{Command}
 use Rattle.ame_cli.specs.Grammar.{SpellsCommand}
 use Rattle.ame_app.specs.declared.parts.Front.{Front}
-use Rattle.ame_app.specs.declared.parts.Own.{Own}
+use Rattle.ame_app.specs.declared.parts.ReportPart.{ReportPart}
 use Rattle.ame_app.specs.declared.status.Status.{Status}
 use Rattle.ame_shell.specs.Ends.{Ends}
 use Rattle.ame_app.specs.Verbs.{reads_source, Settles}
@@ -20,7 +20,7 @@ use Rattle.ame_app.specs.Causes.RefusalCause.{by_words, by_source, by_length, by
 use Rattle.ame_app.proofs.VerbLemmas.{declines-other, settles-other}
 
 -- the status of such a call is no fault of the sink
-pub refusal-other : (call : Call) (text : Text) (ahead : List ℕ) (own : Own) (told : Status) → RefusalCause call text ahead own told → told ≢ Status.WriteFault
+pub refusal-other : (call : Call) (text : Text) (ahead : List ℕ) (own : ReportPart) (told : Status) → RefusalCause call text ahead own told → told ≢ Status.WriteFault
 refusal-other call text ahead own told (by_input other none d) = declines-other d.command d.bytes other d.declines
 refusal-other call text ahead own told (by_words none u) = λ e. absurd (cc)
 refusal-other call text ahead own told (by_source none r) = λ e. absurd (cc)
@@ -69,8 +69,8 @@ module _ (one : SpellOne) (call : Call) where
         alone = left.alone;
       }
     where
-      by : (ahead : List ℕ) (own : Own) (told : Status)
-          → Settles command front (program_of code) ahead own told ⊎ ((ahead ≡ []) × (own ≡ Own.Nothing) × (told ≡ Status.NoMemory))
+      by : (ahead : List ℕ) (own : ReportPart) (told : Status)
+          → Settles command front (program_of code) ahead own told ⊎ ((ahead ≡ []) × (own ≡ ReportPart.Nothing) × (told ≡ Status.NoMemory))
           → RefusalCause call report.text ahead own told
       by ahead own told (inl settles) = by_program ahead own told (record {
         command = command;
@@ -81,5 +81,5 @@ module _ (one : SpellOne) (call : Call) where
       })
       by ahead own told (inr m) =
           subst (λ (l : List ℕ). RefusalCause call report.text l own told) (sym m.0)
-          (subst (λ (o : Own). RefusalCause call report.text [] o told) (sym m.1)
-          (subst (RefusalCause call report.text [] Own.Nothing) (sym m.2) (by_memory (inr (command, front, job.asked)) (asked-left command front report.text job.asked))))
+          (subst (λ (o : ReportPart). RefusalCause call report.text [] o told) (sym m.1)
+          (subst (RefusalCause call report.text [] ReportPart.Nothing) (sym m.2) (by_memory (inr (command, front, job.asked)) (asked-left command front report.text job.asked))))

@@ -6,7 +6,7 @@ use Rattle.ame_term.specs.Tree.{Tree}
 use Rattle.ame_journal.specs.declared.entry.Entry.{Entry}
 use Rattle.ame_cli.specs.declared.command.Command.{Command}
 use Rattle.ame_app.specs.declared.parts.Front.{Front}
-use Rattle.ame_app.specs.declared.parts.Own.{Own}
+use Rattle.ame_app.specs.declared.parts.ReportPart.{ReportPart}
 use Rattle.ame_app.specs.declared.status.Status.{Status}
 use Rattle.ame_app.specs.Verbs.{TakesInput, Declines, Settles, BeginsFrom}
 use Rattle.ame_app.specs.Verbs.Check.{entries_before, TellsOfJournal}
@@ -58,7 +58,7 @@ declines-other (Command.Resume options) bytes told declines = bad-other bytes to
 declines-other (Command.Weak seed turns) bytes told declines = absurd declines
 
 -- a program has one status without a run
-pub settles-one : (command : Command) (front : Front) (program : Tree) (ahead more : List ℕ) (own also : Own) (told other : Status)
+pub settles-one : (command : Command) (front : Front) (program : Tree) (ahead more : List ℕ) (own also : ReportPart) (told other : Status)
     → Settles command front program ahead own told → Settles command front program more also other → told ≡ other
 settles-one (Command.Run options) front program ahead more own also told other one two = absurd one
 settles-one (Command.Bench seed size options) front program ahead more own also told other one two = absurd one
@@ -71,7 +71,7 @@ settles-one (Command.Resume options) front program ahead more own also told othe
 settles-one (Command.Weak seed turns) front program ahead more own also told other one two = absurd one
 
 -- the status of a program without a run is no fault of the sink
-pub settles-other : (command : Command) (front : Front) (program : Tree) (ahead : List ℕ) (own : Own) (told : Status)
+pub settles-other : (command : Command) (front : Front) (program : Tree) (ahead : List ℕ) (own : ReportPart) (told : Status)
     → Settles command front program ahead own told → told ≢ Status.WriteFault
 settles-other (Command.Run options) front program ahead own told settles = absurd settles
 settles-other (Command.Bench seed size options) front program ahead own told settles = absurd settles
@@ -84,7 +84,7 @@ settles-other (Command.Weak seed turns) front program ahead own told settles = a
 -- a program has one status, whichever front is taken of the same bytes
 pub settles-same : (command : Command) (bytes : List ℕ) (front other : Front) (text also : Text)
     → TakesInput command bytes front text → TakesInput command bytes other also
-    → (program : Tree) (ahead : List ℕ) (own : Own) (told : Status) → Settles command front program ahead own told → Settles command other program ahead own told
+    → (program : Tree) (ahead : List ℕ) (own : ReportPart) (told : Status) → Settles command front program ahead own told → Settles command other program ahead own told
 settles-same (Command.Run options) bytes front other text also one two program ahead own told settles = settles
 settles-same (Command.Bench seed size options) bytes front other text also one two program ahead own told settles = settles
 settles-same (Command.Sim seed options) bytes front other text also one two program ahead own told settles = settles
@@ -97,7 +97,7 @@ settles-same (Command.Weak seed turns) bytes front other text also one two progr
 
 -- a program whose run is begun has no status without a run
 pub begins-unsettled : (command : Command) (front : Front) (program : Tree) (base : List Entry) → BeginsFrom command front program base
-    → (ahead : List ℕ) (own : Own) (told : Status) → Settles command front program ahead own told → ⊥
+    → (ahead : List ℕ) (own : ReportPart) (told : Status) → Settles command front program ahead own told → ⊥
 begins-unsettled (Command.Run options) front program base begins ahead own told settles = settles
 begins-unsettled (Command.Bench seed size options) front program base begins ahead own told settles = settles
 begins-unsettled (Command.Sim seed options) front program base begins ahead own told settles = settles

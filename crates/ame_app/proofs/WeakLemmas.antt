@@ -61,7 +61,7 @@ use Rattle.ame_runner.specs.Tall.{tall_note, IsTallIn}
 use Rattle.ame_runner.specs.declared.stop.WeakStop.{WeakStop}
 use Rattle.ame_runner.specs.Apart.{AreNotedApart}
 use Rattle.ame_runner.proofs.ApartLemmas.{order-behind, notes-apart}
-use Rattle.ame_app.specs.declared.left.WeakEnd.{WeakEnd}
+use Rattle.ame_app.specs.declared.run_result.WeakEnd.{WeakEnd}
 use Rattle.ame_app.specs.Jobs.{LeavesFit, certificates_told, HasWeakStop, TellsWeakly}
 use Rattle.ame_app.specs.Verbs.Weak.{IsNoteAtEnd, IsWeakJournal, stop_told, IsEndOf, IsDrawnAs, StandsAtCallOf}
 use Rattle.ame_app.proofs.CountLemmas.{here, more, empty, first-or-later}

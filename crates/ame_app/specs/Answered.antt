@@ -3,7 +3,7 @@ use Rattle.std.specs.Prelude.{◌≡◌, ◌≤◌, None, IfSome, length}
 use Rattle.ame_io.specs.Reads.{whole_limit}
 use Rattle.ame_shell.specs.Ends.{Ends}
 use Rattle.ame_app.specs.Calls.{Call}
-use Rattle.ame_app.specs.Left.{end_in}
+use Rattle.ame_app.specs.RunResult.{end_in}
 use Rattle.ame_app.specs.Reported.{Reported}
 use Rattle.ame_app.specs.Headline.{Headline, IsTurnedAway}
 use Rattle.ame_app.specs.Complete.{IsComplete}

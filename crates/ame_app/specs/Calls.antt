@@ -3,7 +3,7 @@ use Rattle.std.specs.Prelude.{◌≡◌, ℕ, ◌<◌, ◌≤◌, Bool, true, fa
 use Rattle.ame_io.specs.Reads.{whole_limit, IsReadWhole, GivesMoreThan}
 use Rattle.ame_lex.specs.Bytes.{Text}
 use Rattle.ame_cli.specs.declared.command.Command.{Command}
-use Rattle.ame_cli.specs.Items.{Word}
+use Rattle.ame_cli.specs.Items.{ArgWord}
 use Rattle.ame_cli.specs.Grammar.{SpellsCommand}
 use Rattle.ame_app.specs.declared.parts.Front.{Front}
 use Rattle.ame_app.specs.Verbs.{reads_source, TakesInput}
@@ -18,12 +18,12 @@ what_is_given left faults source = record { left = left source; faults = faults 
 
 -- the words of a call, what its source shows before it and after it, and how many devices it is given
 pub record Call : Type 0 where
-  pub words : List Word
+  pub words : List ArgWord
   pub source : Given
   pub source_after : Given
   pub devices : ℕ
 
-abbrev pub call_of : List Word → Given → Given → ℕ → Call
+abbrev pub call_of : List ArgWord → Given → Given → ℕ → Call
 call_of words source source_after devices = record { words = words; source = source; source_after = source_after; devices = devices }
 
 -- all the bytes that a source had left were read to their end, without a fault

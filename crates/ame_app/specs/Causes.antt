@@ -18,7 +18,7 @@ use Rattle.ame_engine.specs.Ending.{End, CertifyAll}
 use Rattle.ame_shell.specs.Ends.{Ends, told_at}
 use Rattle.ame_app.specs.declared.fault.TextFault.{TextFault}
 use Rattle.ame_app.specs.declared.parts.Front.{Front}
-use Rattle.ame_app.specs.declared.parts.Own.{Own}
+use Rattle.ame_app.specs.declared.parts.ReportPart.{ReportPart}
 use Rattle.ame_app.specs.declared.status.Status.{Status}
 use Rattle.ame_app.specs.Verbs.{reads_source, Declines, Settles}
 use Rattle.ame_app.specs.Verbs.Weak.{IsWeakFault}
@@ -73,7 +73,7 @@ pub record IsRefusedByTypes (call : Call) (text : Text) (fault : TypeFault) : Ty
   pub cause : IsIllTyped text call.devices fault
 
 -- the text that was asked for is a program, which the command settles with this status, without a run
-pub record IsSettled (call : Call) (text : Text) (ahead : List ℕ) (own : Own) (told : Status) : Type 0 where
+pub record IsSettled (call : Call) (text : Text) (ahead : List ℕ) (own : ReportPart) (told : Status) : Type 0 where
   pub command : Command
   pub front : Front
   pub asked : Asks call command front text
@@ -91,15 +91,15 @@ IsAskedOrNone call text = (text ≡ []) ⊎ ((command : Command) × (front : Fro
 
 -- Why no run was begun, a case a cause. The text is that of the report, and is empty if none was taken. The bytes are those that are written
 -- before the verdict line. The last part is what the report has of the command's own.
-pub data RefusalCause (call : Call) (text : Text) : List ℕ → Own → Status → Type 0 where
-  by_words : text ≡ [] → IsUsage call → RefusalCause call text [] Own.Nothing Status.Usage
-  by_source : text ≡ [] → IsReadFault call → RefusalCause call text [] Own.Nothing Status.ReadFault
-  by_length : text ≡ [] → IsTooLong call → RefusalCause call text [] Own.Nothing Status.TooLong
-  by_input : (told : Status) → text ≡ [] → IsDeclined call told → RefusalCause call text [] Own.Nothing told
-  by_text : (fault : TextFault) → IsUnreadable call text fault → RefusalCause call text [] Own.Nothing (Status.Text fault)
-  by_types : (fault : TypeFault) → IsRefusedByTypes call text fault → RefusalCause call text [] Own.Nothing (Status.Types fault)
-  by_program : (ahead : List ℕ) (own : Own) (told : Status) → IsSettled call text ahead own told → RefusalCause call text ahead own told
-  by_memory : IsAskedOrNone call text → IsWithoutMemory call → RefusalCause call text [] Own.Nothing Status.NoMemory
+pub data RefusalCause (call : Call) (text : Text) : List ℕ → ReportPart → Status → Type 0 where
+  by_words : text ≡ [] → IsUsage call → RefusalCause call text [] ReportPart.Nothing Status.Usage
+  by_source : text ≡ [] → IsReadFault call → RefusalCause call text [] ReportPart.Nothing Status.ReadFault
+  by_length : text ≡ [] → IsTooLong call → RefusalCause call text [] ReportPart.Nothing Status.TooLong
+  by_input : (told : Status) → text ≡ [] → IsDeclined call told → RefusalCause call text [] ReportPart.Nothing told
+  by_text : (fault : TextFault) → IsUnreadable call text fault → RefusalCause call text [] ReportPart.Nothing (Status.Text fault)
+  by_types : (fault : TypeFault) → IsRefusedByTypes call text fault → RefusalCause call text [] ReportPart.Nothing (Status.Types fault)
+  by_program : (ahead : List ℕ) (own : ReportPart) (told : Status) → IsSettled call text ahead own told → RefusalCause call text ahead own told
+  by_memory : IsAskedOrNone call text → IsWithoutMemory call → RefusalCause call text [] ReportPart.Nothing Status.NoMemory
 
 -- the report has the command that the words spell; if it has none, they spell none, or memory ran out
 abbrev pub IsNamed : Call → Option Command → Status → Type 0
@@ -108,7 +108,7 @@ IsNamed call None told = SpellsNothing call.words ⊎ (told ≡ Status.NoMemory)
 
 -- A call is refused before a run, with this text, if one was taken, this command and this status, which has its cause.
 pub record IsRefusedWith (call : Call) (text : Text) (command : Option Command) (told : Status) : Type 0 where
-  pub cause : RefusalCause call text [] Own.Nothing told
+  pub cause : RefusalCause call text [] ReportPart.Nothing told
   pub named : IsNamed call command told
   pub most : length text ≤ whole_limit
 

@@ -12,7 +12,7 @@ use Rattle.ame_cli.specs.declared.command.Command.{Command}
 use Rattle.ame_cli.specs.Grammar.{SpellsCommand, SpellsNothing}
 use Rattle.ame_shell.specs.Ends.{Ends, told_at}
 use Rattle.ame_app.specs.declared.parts.Front.{Front}
-use Rattle.ame_app.specs.declared.parts.Own.{Own}
+use Rattle.ame_app.specs.declared.parts.ReportPart.{ReportPart}
 use Rattle.ame_app.specs.declared.status.Status.{Status}
 use Rattle.ame_app.specs.Verbs.{reads_source, TakesInput, Declines, Settles, options_of}
 use Rattle.ame_app.specs.Calls.{Given, Call}
@@ -99,7 +99,7 @@ TellsEndWith None status = status ≡ Status.NoMemory
 -- the command settles the program with this status, without a run; or a run is made, and the status says how it ended
 abbrev pub TellsOutcome : Command → Front → Tree → Status → Type 0
 TellsOutcome command front program status =
-    ((ahead : List ℕ) × (own : Own) × Settles command front program ahead own status) ⊎ TellsEndWith (options_of command) status
+    ((ahead : List ℕ) × (own : ReportPart) × Settles command front program ahead own status) ⊎ TellsEndWith (options_of command) status
 
 -- the status says that the text is too long, or what is wrong with it, or memory ran out
 abbrev pub TellsText : Status → Type 0
@@ -133,7 +133,7 @@ pub record IsComplete (call : Call) (status : Status) (before after : Ends) : Ty
   pub accepted : NothingFailed call before after → (text : Text) (given : IsGivenText call text) (good : IsAcceptedText text call.devices)
       → TellsOutcome given.given.command given.front good.source.tree status
   pub settled : NothingFailed call before after → (text : Text) (given : IsGivenText call text) (good : IsAcceptedText text call.devices)
-      → (ahead : List ℕ) (own : Own) (told : Status) → Settles given.given.command given.front good.source.tree ahead own told → IsUnlessMemory told status
+      → (ahead : List ℕ) (own : ReportPart) (told : Status) → Settles given.given.command given.front good.source.tree ahead own told → IsUnlessMemory told status
   pub sink_failed : before.write_faults < after.write_faults → status ≡ Status.WriteFault
   pub device_failed : HasNotRisen before.write_faults after.write_faults → (k : ℕ) → (told_at before.told k).faults < (told_at after.told k).faults
       → TellsDevice call k status

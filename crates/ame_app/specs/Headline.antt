@@ -36,7 +36,7 @@ use Rattle.ame_shell.specs.Heard.{HaveHeardSince, HaveFailed}
 use Rattle.ame_shell.specs.Over.{AreOfSeats, NoneWereInTheWay}
 use Rattle.ame_shell.specs.Ran.{IsRanBy}
 use Rattle.ame_app.specs.declared.parts.Front.{Front}
-use Rattle.ame_app.specs.declared.parts.Own.{Own}
+use Rattle.ame_app.specs.declared.parts.ReportPart.{ReportPart}
 use Rattle.ame_app.specs.declared.status.Status.{Status}
 use Rattle.ame_app.specs.Reported.{RunView, Reported}
 use Rattle.ame_app.specs.Verdict.{verdict}
@@ -154,7 +154,7 @@ pub record Headline (call : Call) (report : Reported) (run : RunView) (end : End
   pub bounds : HasBounds (program_of compiled) (limits_of options) final end.base end.entries end.turns end.counters end.tried end.stop
 
 -- Only the bytes before the verdict line and that line of a refusal were written. There is no run, and no device was called.
-pub record IsToldAlone (ahead : List ℕ) (own : Own) (told : Status) (report : Reported) (before after : Ends) : Type 0 where
+pub record IsToldAlone (ahead : List ℕ) (own : ReportPart) (told : Status) (report : Reported) (before after : Ends) : Type 0 where
   pub spoken : report.status ≢ Status.WriteFault → report.status ≡ told
   pub output : IsWritten report.status (ahead ++ verdict told) before after
   pub devices : after.told ≡ before.told
@@ -164,7 +164,7 @@ pub record IsToldAlone (ahead : List ℕ) (own : Own) (told : Status) (report : 
 -- The promises of a call in which no run was begun: the status has its cause, and the report has the command.
 pub record IsTurnedAway (call : Call) (report : Reported) (before after : Ends) : Type 0 where
   pub ahead : List ℕ
-  pub own : Own
+  pub own : ReportPart
   pub told : Status
   pub cause : RefusalCause call report.text ahead own told
   pub named : IsNamed call report.command told

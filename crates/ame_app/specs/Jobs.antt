@@ -41,10 +41,10 @@ use Rattle.ame_shell.specs.Over.{AreOfSeats, IsOver, IsOverSince}
 use Rattle.ame_runner.specs.Apart.{AreNotedApart}
 use Rattle.ame_runner.specs.declared.stop.WeakStop.{WeakStop}
 use Rattle.ame_app.specs.declared.fault.TextFault.{TextFault}
-use Rattle.ame_app.specs.declared.left.Left.{Left}
-use Rattle.ame_app.specs.declared.left.WeakEnd.{WeakEnd}
+use Rattle.ame_app.specs.declared.run_result.RunResult.{RunResult}
+use Rattle.ame_app.specs.declared.run_result.WeakEnd.{WeakEnd}
 use Rattle.ame_app.specs.declared.parts.Front.{Front}
-use Rattle.ame_app.specs.declared.parts.Own.{Own}
+use Rattle.ame_app.specs.declared.parts.ReportPart.{ReportPart}
 use Rattle.ame_app.specs.declared.status.Status.{Status}
 use Rattle.ame_app.specs.declared.verbs.Outlook.{Outlook}
 use Rattle.ame_app.specs.Verbs.{Declines, Settles, options_of, BeginsFrom, Promises}
@@ -52,7 +52,7 @@ use Rattle.ame_app.specs.Verbs.Weak.{alone_with, IsWeakJournal, IsDrawnAs, Stand
 use Rattle.ame_app.specs.Calls.{Call, Asks}
 use Rattle.ame_app.specs.Texts.{IsNoProgram, IsIllTyped, IsProgramOf}
 use Rattle.ame_app.specs.Fragments.{fragments}
-use Rattle.ame_app.specs.Left.{end_in}
+use Rattle.ame_app.specs.RunResult.{end_in}
 use Rattle.ame_app.specs.Reported.{Reported}
 use Rattle.ame_app.specs.Headline.{limits_of, IsStore, IsTypedState, IsToldAlone}
 
@@ -144,7 +144,7 @@ IsOverResumed engine before end after =
     IsOverSince engine.base (program_of engine.code) (signature_of engine.code.accepted) engine.limits (value_meant engine.code) before end after
 
 -- a run that a command makes by an engine is over, and has kept what the command promises
-pub record IsEngineRunMade (command : Command) (front : Front) (code : FlatCode) (before : Ends) (left : Left) (after : Ends) : Type 0 where
+pub record IsEngineRunMade (command : Command) (front : Front) (code : FlatCode) (before : Ends) (left : RunResult) (after : Ends) : Type 0 where
   pub options : Options
   pub with_options : options_of command ≡ Some options
   pub base : List Entry
@@ -193,9 +193,9 @@ pub record HasLeft (code : FlatCode) (limits : Limits) (weak : WeakEnd) : Type 0
   pub leads : LeadsToLeft code weak.journal.entries weak.store weak.output.items
 
 -- a weak run is over, and its lines aren't written yet
-pub record IsWeakRunMade (seed turns : ℕ) (code : FlatCode) (before : Ends) (left : Left) (ahead : List ℕ) (after : Ends) : Type 0 where
+pub record IsWeakRunMade (seed turns : ℕ) (code : FlatCode) (before : Ends) (left : RunResult) (ahead : List ℕ) (after : Ends) : Type 0 where
   pub weak : WeakEnd
-  pub left_is : left ≡ Left.Weak weak
+  pub left_is : left ≡ RunResult.Weak weak
   pub tells : TellsWeakly (program_of code) turns weak before.told after.told
   pub drawn : weak.stop ≢ Stop.NoMemory → IsDrawnAs (program_of code) seed turns weak
   pub has_left : HasLeft code (limits_of (alone_with turns)) weak
@@ -204,16 +204,16 @@ pub record IsWeakRunMade (seed turns : ℕ) (code : FlatCode) (before : Ends) (l
   pub unfailed : after.write_faults ≡ before.write_faults
 
 -- the run of a command is over; if it was weak, these bytes are to be written before the verdict line
-abbrev pub IsRunMade : Command → Front → FlatCode → Ends → Left → List ℕ → Ends → Type 0
+abbrev pub IsRunMade : Command → Front → FlatCode → Ends → RunResult → List ℕ → Ends → Type 0
 IsRunMade (Command.Weak seed turns) front code before left ahead after = IsWeakRunMade seed turns code before left ahead after
 IsRunMade command front code before left ahead after = IsEngineRunMade command front code before left after
 
 -- no run was begun of a job: its command settles the program with this status, or memory ran out
 pub record IsLeft (command : Command) (front : Front) (code : FlatCode) (report : Reported) (before after : Ends) : Type 0 where
   pub ahead : List ℕ
-  pub own : Own
+  pub own : ReportPart
   pub told : Status
-  pub cause : Settles command front (program_of code) ahead own told ⊎ ((ahead ≡ []) × (own ≡ Own.Nothing) × (told ≡ Status.NoMemory))
+  pub cause : Settles command front (program_of code) ahead own told ⊎ ((ahead ≡ []) × (own ≡ ReportPart.Nothing) × (told ≡ Status.NoMemory))
   pub named : report.command ≡ Some command
   pub alone : IsToldAlone ahead own told report before after
 
@@ -257,8 +257,8 @@ SpeaksBehind (Some Stop.WriteFault) told text status written faults after faults
 SpeaksBehind stop told text status written faults after faults_after = Speaks told text status written faults after faults_after
 
 -- An engine's lines were written as it ran. Those of a weak run are written first.
-abbrev pub SpeaksAfter : Left → List ℕ → Status → List ℕ → Status → Option (List ℕ) → ℕ → Option (List ℕ) → ℕ → Type 0
-SpeaksAfter (Left.Engine end extra) ahead told text status written faults after faults_after =
+abbrev pub SpeaksAfter : RunResult → List ℕ → Status → List ℕ → Status → Option (List ℕ) → ℕ → Option (List ℕ) → ℕ → Type 0
+SpeaksAfter (RunResult.Engine end extra) ahead told text status written faults after faults_after =
     SpeaksBehind end.stop told text status written faults after faults_after
-SpeaksAfter (Left.Weak weak) ahead told text status written faults after faults_after =
+SpeaksAfter (RunResult.Weak weak) ahead told text status written faults after faults_after =
     Speaks told (ahead ++ text) status written faults after faults_after

@@ -1,6 +1,6 @@
 pub mod Verdict
 pub mod Alone
-pub mod Left
+pub mod RunResult
 pub mod Fragments
 pub mod Verbs
 pub mod Calls

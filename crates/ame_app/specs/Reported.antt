@@ -4,16 +4,16 @@ use Rattle.std.specs.Arc.{arc_value}
 use Rattle.ame_lex.specs.Bytes.{Text}
 use Rattle.ame_code.specs.FlatCode.{FlatCode}
 use Rattle.ame_cli.specs.declared.command.Command.{Command}
-use Rattle.ame_app.specs.declared.parts.Own.{Own}
-use Rattle.ame_app.specs.declared.left.Left.{Left}
-use Rattle.ame_app.specs.declared.left.Ran.{Ran}
+use Rattle.ame_app.specs.declared.parts.ReportPart.{ReportPart}
+use Rattle.ame_app.specs.declared.run_result.RunResult.{RunResult}
+use Rattle.ame_app.specs.declared.run_result.Ran.{Ran}
 use Rattle.ame_app.specs.declared.report.Report.{Report}
 use Rattle.ame_app.specs.declared.status.Status.{Status}
 
 -- the code that was run, and what the run left
 pub record RunView : Type 0 where
   pub code : FlatCode
-  pub left : Left
+  pub left : RunResult
 
 abbrev pub run_view : Ran → RunView
 run_view ran = record { code = arc_value ran.code; left = ran.left }
@@ -25,7 +25,7 @@ pub record Reported : Type 0 where
   pub text : Text
   pub command : Option Command
   pub run : Option RunView
-  pub own : Own
+  pub own : ReportPart
 
 abbrev pub reported : {K D : Type 0} → Report K D → Reported
 reported report = record {

@@ -8,7 +8,7 @@ use Rattle.ame_protocol.specs.declared.stop.Stop.{Stop}
 use Rattle.ame_shell.specs.Ends.{Ends}
 use Rattle.ame_app.specs.declared.standard.StandardDevice.{StandardDevice}
 use Rattle.ame_app.specs.declared.status.Status.{Status}
-use Rattle.ame_app.specs.Left.{end_in}
+use Rattle.ame_app.specs.RunResult.{end_in}
 use Rattle.ame_app.specs.Reported.{RunView, Reported}
 
 -- the kind of a device, the calls that it heard, and its count of faults

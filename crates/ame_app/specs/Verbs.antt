@@ -16,9 +16,9 @@ use Rattle.ame_protocol.specs.declared.types.Limits.{Limits}
 use Rattle.ame_shell.specs.Ends.{Ends}
 use Rattle.ame_cli.specs.declared.command.Options.{Options}
 use Rattle.ame_cli.specs.declared.command.Command.{Command}
-use Rattle.ame_app.specs.declared.left.Left.{Left}
+use Rattle.ame_app.specs.declared.run_result.RunResult.{RunResult}
 use Rattle.ame_app.specs.declared.parts.Front.{Front}
-use Rattle.ame_app.specs.declared.parts.Own.{Own}
+use Rattle.ame_app.specs.declared.parts.ReportPart.{ReportPart}
 use Rattle.ame_app.specs.declared.status.Status.{Status}
 use Rattle.ame_app.specs.Verbs.Run.{TakesAll, BeginsWithNothing, HasNothing}
 use Rattle.ame_app.specs.Verbs.Bench.{TakesGenerated}
@@ -64,7 +64,7 @@ Declines (Command.Weak seed turns) bytes told = ⊥
 -- Statuses without a run
 
 -- the status of a program, with the bytes before the verdict line and what the report has of the command's own
-abbrev pub Settles : Command → Front → Tree → List ℕ → Own → Status → Type 0
+abbrev pub Settles : Command → Front → Tree → List ℕ → ReportPart → Status → Type 0
 Settles (Command.Run options) front program ahead own told = ⊥
 Settles (Command.Bench seed size options) front program ahead own told = ⊥
 Settles (Command.Sim seed options) front program ahead own told = ⊥
@@ -98,7 +98,7 @@ BeginsFrom (Command.Weak seed turns) front program base = BeginsWithNothing base
 -- Results
 
 -- the run that a command made of code, with these limits and from these ends, left what the command promises
-abbrev pub Promises : Command → Front → FlatCode → Limits → Ends → Left → Type 0
+abbrev pub Promises : Command → Front → FlatCode → Limits → Ends → RunResult → Type 0
 Promises (Command.Run options) front code limits before left = HasNothing left
 Promises (Command.Bench seed size options) front code limits before left = HasNothing left
 Promises (Command.Sim seed options) front code limits before left = IsPicked (drawn seed) code limits before left
@@ -108,7 +108,7 @@ Promises (Command.Resume options) front code limits before left = TellsResumed l
 Promises (Command.Weak seed turns) front code limits before left = IsWeakened (program_of code) seed turns left
 
 -- what is written after the verdict line of a run
-abbrev pub written_behind : Command → Left → Status → List ℕ
+abbrev pub written_behind : Command → RunResult → Status → List ℕ
 written_behind (Command.Run options) left told = []
 written_behind (Command.Bench seed size options) left told = []
 written_behind (Command.Sim seed options) left told = schedule_behind left told

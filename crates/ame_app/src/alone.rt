@@ -9,10 +9,10 @@ ghost use Rattle.ame_app.specs.Alone.{command_of};
 ghost use Rattle.ame_app.specs.Answered.{IsPromised};
 ghost use Rattle.ame_app.specs.Calls.{Call, IsCallOf};
 ghost use Rattle.ame_app.specs.Headline.{Headline, IsToldAlone};
-ghost use Rattle.ame_app.specs.Left.{end_in};
+ghost use Rattle.ame_app.specs.RunResult.{end_in};
 ghost use Rattle.ame_app.specs.Reported.{reported};
 ghost use Rattle.ame_app.specs.Jobs.{IsJobOf, IsLeft};
-ghost use Rattle.ame_app.specs.declared.parts.Own.{Own};
+ghost use Rattle.ame_app.specs.declared.parts.ReportPart.{ReportPart};
 ghost use Rattle.ame_app.specs.declared.status.Status.{Status};
 
 use crate::answer::{conclude, leave, leave_unbegun, opened};
@@ -136,7 +136,7 @@ fn run_here<K: Sink + Drop, D: Device>(alloc: Global, asked: Asked, io: Io<K, D>
         → IsJobOf call asked.text.items (arc_value asked.job.code) asked.job.command asked.job.front
         → Headline call (reported result) run (end_in run.left) io.ends
         (ends_of K.written K.faults D.device_told result.sink result.devices.items)) }
-    ensures turned_away { (reported result).run ≡ None → IsToldAlone [] Own.Nothing Status.NoMemory (reported result) io.ends
+    ensures turned_away { (reported result).run ≡ None → IsToldAlone [] ReportPart.Nothing Status.NoMemory (reported result) io.ends
         (ends_of K.written K.faults D.device_told result.sink result.devices.items) }
 {
     match make_alone(alloc, &asked.job, io) {

@@ -7,19 +7,19 @@ ghost use Rattle.ame_code.specs.Code.{program_of};
 ghost use Rattle.ame_shell.specs.Ends.{Ends, ends_of};
 ghost use Rattle.ame_app.specs.Calls.{Call};
 ghost use Rattle.ame_app.specs.Headline.{Headline, IsToldAlone};
-ghost use Rattle.ame_app.specs.Left.{end_in};
+ghost use Rattle.ame_app.specs.RunResult.{end_in};
 ghost use Rattle.ame_app.specs.Reported.{reported};
 ghost use Rattle.ame_app.specs.Jobs.{IsJobOf, IsOpened, IsRunMade, IsLeft};
 ghost use Rattle.ame_app.specs.Verbs.{Settles};
 
 use crate::asked::Asked;
-use crate::left::Ran;
-use crate::parts::Own;
+use crate::parts::ReportPart;
 use crate::refusal::{Refusal, turn_back};
 use crate::report::Report;
+use crate::run_result::Ran;
 use crate::speak::speak_after;
 use crate::status::Status;
-use crate::verbs::{Job, Made, Outlook, Settled, settle, told_alone};
+use crate::verbs::{FinishedRun, Job, Outlook, Settled, settle, told_alone};
 use ame_device::Device;
 use ame_engine::Engine;
 use ame_eval::Fragment;
@@ -33,13 +33,13 @@ pub(crate) fn opened(alloc: Global, job: &Job) -> Result<Option<Engine<Fragment>
     requires ranges { IsInRange job.now.command }
     ensures opened { IfOk result (λ engine. IfSome engine (IsOpened job.now.command job.now.front (arc_value job.now.code))) }
     ensures settled { IfErr result (λ s. Settles job.now.command job.now.front (program_of (arc_value job.now.code)) s.ahead.items s.own s.told
-        ⊎ ((s.ahead.items ≡ []) × (s.own ≡ Own.Nothing) × (s.told ≡ Status.NoMemory))) }
+        ⊎ ((s.ahead.items ≡ []) × (s.own ≡ ReportPart.Nothing) × (s.told ≡ Status.NoMemory))) }
 {
     match settle(alloc, job) {
         Ok(Outlook::Told(settled)) => Err(settled),
         Ok(Outlook::Begins) => Ok(None),
         Ok(Outlook::GoesOn(engine)) => Ok(Some(engine)),
-        Err(NoMemory) => Err(told_alone(alloc, Status::NoMemory, Own::Nothing)),
+        Err(NoMemory) => Err(told_alone(alloc, Status::NoMemory, ReportPart::Nothing)),
     }
 }
 
@@ -50,7 +50,7 @@ pub(crate) fn leave<K: Sink + Drop, D: Device>(
     io: Io<K, D>,
 ) -> Report<K, D>
     requires settled { Settles asked.job.command asked.job.front (program_of (arc_value asked.job.code)) settled.ahead.items settled.own settled.told
-        ⊎ ((settled.ahead.items ≡ []) × (settled.own ≡ Own.Nothing) × (settled.told ≡ Status.NoMemory)) }
+        ⊎ ((settled.ahead.items ≡ []) × (settled.own ≡ ReportPart.Nothing) × (settled.told ≡ Status.NoMemory)) }
     ensures text { result.text ≡ asked.text }
     ensures run { result.run ≡ None }
     ensures left { IsLeft asked.job.command asked.job.front (arc_value asked.job.code) (reported result) io.ends
@@ -70,7 +70,7 @@ pub(crate) fn leave_unbegun<K: Sink + Drop, D: Device>(asked: Asked, io: Io<K, D
     ensures text { result.text ≡ asked.text }
     ensures command { result.command ≡ Some asked.job.command }
     ensures run { result.run ≡ None }
-    ensures alone { IsToldAlone [] Own.Nothing Status.NoMemory (reported result) io.ends
+    ensures alone { IsToldAlone [] ReportPart.Nothing Status.NoMemory (reported result) io.ends
         (ends_of K.written K.faults D.device_told result.sink result.devices.items) }
 {
     let told = Status::NoMemory;
@@ -79,11 +79,14 @@ pub(crate) fn leave_unbegun<K: Sink + Drop, D: Device>(asked: Asked, io: Io<K, D
         told,
         text: asked.text,
     };
-    turn_back(&[], Own::Nothing, refusal, io)
+    turn_back(&[], ReportPart::Nothing, refusal, io)
 }
 
 /// Writes how a run ended, and reports it.
-pub(crate) fn conclude<K: Sink + Drop, D: Device>(asked: Asked, made: Made<K, D>) -> Report<K, D>
+pub(crate) fn conclude<K: Sink + Drop, D: Device>(
+    asked: Asked,
+    made: FinishedRun<K, D>,
+) -> Report<K, D>
     ensures run { IsSome (reported result).run }
     ensures text { result.text ≡ asked.text }
     ensures command { result.command ≡ Some asked.job.command }
@@ -93,7 +96,7 @@ pub(crate) fn conclude<K: Sink + Drop, D: Device>(asked: Asked, made: Made<K, D>
         → Headline call (reported result) run (end_in run.left) before
         (ends_of K.written K.faults D.device_told result.sink result.devices.items)) }
 {
-    let Made { left, ahead, io } = made;
+    let FinishedRun { left, ahead, io } = made;
     let (mut sink, devices) = io.into_parts();
     let Asked { job, text } = asked;
     let told = Status::of(&left);
@@ -106,7 +109,7 @@ pub(crate) fn conclude<K: Sink + Drop, D: Device>(asked: Asked, made: Made<K, D>
             code: job.code,
             left,
         }),
-        own: Own::Nothing,
+        own: ReportPart::Nothing,
         sink,
         devices,
     }

@@ -3,7 +3,7 @@
 ghost use Rattle.std.specs.Prelude.{◌≡◌, ◌≢◌, ◌≤◌, IfOk, IfErr, List, None, Some, [], ℕ, map, string_bytes, vec_len};
 ghost use Rattle.std.specs.Arc.{arc_value};
 ghost use Rattle.ame_types.specs.Limits.{max_devices};
-ghost use Rattle.ame_cli.specs.Items.{Word};
+ghost use Rattle.ame_cli.specs.Items.{ArgWord};
 ghost use Rattle.ame_cli.specs.Grammar.{SpellsCommand};
 ghost use Rattle.ame_cli.specs.Ranges.{IsInRange};
 ghost use Rattle.ame_app.specs.Alone.{command_of};
@@ -11,14 +11,14 @@ ghost use Rattle.ame_app.specs.Calls.{Call, what_is_given, call_of, IsCallOf, Is
 ghost use Rattle.ame_app.specs.Causes.{RefusalCause, IsRefusedWith};
 ghost use Rattle.ame_app.specs.Jobs.{IsJobOf};
 ghost use Rattle.ame_app.specs.Verbs.{reads_source};
-ghost use Rattle.ame_app.specs.declared.parts.Own.{Own};
+ghost use Rattle.ame_app.specs.declared.parts.ReportPart.{ReportPart};
 ghost use Rattle.ame_app.specs.declared.status.Status.{Status as Told};
 
 use crate::alone::Alone;
 use crate::code::code_of;
 use crate::refusal::Refusal;
 use crate::status::Status;
-use crate::verbs::{Job, Taken, reads_source, take};
+use crate::verbs::{CommandInput, Job, reads_source, take};
 use ame_cli::{Command, read_words, spells_one_command};
 use ame_io::{READ_LIMIT, Source, read_all};
 use std::alloc::Global;
@@ -82,7 +82,12 @@ pub(crate) fn asked_of(
 }
 
 /// Returns the job of a command and what it takes, or why there is no code.
-fn job_of(alloc: Global, command: Command, taken: Taken, devices: u32) -> Result<Asked, Refusal>
+fn job_of(
+    alloc: Global,
+    command: Command,
+    taken: CommandInput,
+    devices: u32,
+) -> Result<Asked, Refusal>
     requires ranges { IsInRange command }
     requires small { vec_len taken.text ≤ READ_LIMIT }
     requires few { devices ≤ max_devices }
@@ -95,7 +100,7 @@ fn job_of(alloc: Global, command: Command, taken: Taken, devices: u32) -> Result
     ensures other { IfErr result (λ refusal. refusal.told ≢ Told.WriteFault) }
 {
     spells_one_command();
-    let Taken { front, text } = taken;
+    let CommandInput { front, text } = taken;
     match code_of(alloc, &text, devices) {
         Ok(code) => {
             let job = Job {
@@ -114,13 +119,17 @@ fn job_of(alloc: Global, command: Command, taken: Taken, devices: u32) -> Result
 }
 
 /// Returns the front and the text that a command takes of its source, or why there are none.
-fn taken_of<S: Source>(alloc: Global, command: &Command, source: &mut S) -> Result<Taken, Status>
+fn taken_of<S: Source>(
+    alloc: Global,
+    command: &Command,
+    source: &mut S,
+) -> Result<CommandInput, Status>
     requires ranges { IsInRange command.now }
-    ensures asks { IfOk result (λ taken. (words : List Word) (devices : ℕ) → SpellsCommand words command.now
+    ensures asks { IfOk result (λ taken. (words : List ArgWord) (devices : ℕ) → SpellsCommand words command.now
         → Asks (call_of words (what_is_given S.left S.faults source.old) (what_is_given S.left S.faults source.new) devices) command.now taken.front taken.text.items) }
     ensures small { IfOk result (λ taken. vec_len taken.text ≤ READ_LIMIT) }
-    ensures refused { IfErr result (λ status. (words : List Word) (devices : ℕ) → SpellsCommand words command.now
-        → RefusalCause (call_of words (what_is_given S.left S.faults source.old) (what_is_given S.left S.faults source.new) devices) [] [] Own.Nothing status) }
+    ensures refused { IfErr result (λ status. (words : List ArgWord) (devices : ℕ) → SpellsCommand words command.now
+        → RefusalCause (call_of words (what_is_given S.left S.faults source.old) (what_is_given S.left S.faults source.new) devices) [] [] ReportPart.Nothing status) }
 {
     spells_one_command();
     let bytes = bytes_of(alloc, command, source)?;
@@ -132,8 +141,8 @@ fn bytes_of<S: Source>(alloc: Global, command: &Command, source: &mut S) -> Resu
     ensures input { IfOk result (λ bytes. IsInput (reads_source command.now) (what_is_given S.left S.faults source.old)
         (what_is_given S.left S.faults source.new) bytes.items) }
     ensures most { IfOk result (λ bytes. vec_len bytes ≤ READ_LIMIT) }
-    ensures refused { IfErr result (λ status. (words : List Word) (devices : ℕ) → SpellsCommand words command.now
-        → RefusalCause (call_of words (what_is_given S.left S.faults source.old) (what_is_given S.left S.faults source.new) devices) [] [] Own.Nothing status) }
+    ensures refused { IfErr result (λ status. (words : List ArgWord) (devices : ℕ) → SpellsCommand words command.now
+        → RefusalCause (call_of words (what_is_given S.left S.faults source.old) (what_is_given S.left S.faults source.new) devices) [] [] ReportPart.Nothing status) }
 {
     spells_one_command();
     if reads_source(command) {
@@ -144,13 +153,13 @@ fn bytes_of<S: Source>(alloc: Global, command: &Command, source: &mut S) -> Resu
 }
 
 /// Returns the front and the text that a command takes of bytes in memory, or why there are none.
-fn taken_from(alloc: Global, command: Alone, bytes: &[u8]) -> Result<Taken, Status>
+fn taken_from(alloc: Global, command: Alone, bytes: &[u8]) -> Result<CommandInput, Status>
     requires ranges { IsInRange (command_of command) }
     ensures asks { IfOk result (λ taken. (call : Call) (devices : ℕ) → IsCallOf call (command_of command) bytes.now devices
         → Asks call (command_of command) taken.front taken.text.items) }
     ensures small { IfOk result (λ taken. vec_len taken.text ≤ READ_LIMIT) }
     ensures refused { IfErr result (λ status. (call : Call) (devices : ℕ) → IsCallOf call (command_of command) bytes.now devices
-        → RefusalCause call [] [] Own.Nothing status) }
+        → RefusalCause call [] [] ReportPart.Nothing status) }
     ensures other { IfErr result (λ status. status ≢ Told.WriteFault) }
 {
     spells_one_command();

@@ -8,10 +8,10 @@ ghost use Rattle.ame_shell.specs.Ends.{ends_of};
 ghost use Rattle.ame_app.specs.Answered.{IsPromised};
 ghost use Rattle.ame_app.specs.Calls.{Call, what_is_given, call_of};
 ghost use Rattle.ame_app.specs.Headline.{Headline, IsToldAlone};
-ghost use Rattle.ame_app.specs.Left.{end_in};
+ghost use Rattle.ame_app.specs.RunResult.{end_in};
 ghost use Rattle.ame_app.specs.Reported.{reported};
 ghost use Rattle.ame_app.specs.Jobs.{IsJobOf, IsOpened, IsLeft};
-ghost use Rattle.ame_app.specs.declared.parts.Own.{Own};
+ghost use Rattle.ame_app.specs.declared.parts.ReportPart.{ReportPart};
 ghost use Rattle.ame_app.specs.declared.status.Status.{Status};
 
 use crate::answer::{conclude, leave, leave_unbegun, opened};
@@ -131,7 +131,7 @@ where
         → IsJobOf call asked.text.items (arc_value asked.job.code) asked.job.command asked.job.front
         → Headline call (reported result) run (end_in run.left) io.ends
         (ends_of K.written K.faults D.device_told result.sink result.devices.items)) }
-    ensures turned_away { (reported result).run ≡ None → IsToldAlone [] Own.Nothing Status.NoMemory (reported result) io.ends
+    ensures turned_away { (reported result).run ≡ None → IsToldAlone [] ReportPart.Nothing Status.NoMemory (reported result) io.ends
         (ends_of K.written K.faults D.device_told result.sink result.devices.items) }
 {
     match make(rt, alloc, &asked.job, engine, io, gate) {

@@ -16,7 +16,7 @@ pub enum Front {
 
 /// The part that a command adds to its report if no run was begun.
 #[derive(Drop)]
-pub enum Own {
+pub enum ReportPart {
     Nothing,
     /// The reason why an entry of a certificate can't be made.
     Unmade(Reason),

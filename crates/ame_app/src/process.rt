@@ -7,7 +7,7 @@ ghost use Rattle.ame_app.specs.Calls.{what_is_given, call_of};
 ghost use Rattle.ame_app.specs.Answered.{IsPromised};
 ghost use Rattle.ame_app.specs.Headline.{IsToldAlone};
 ghost use Rattle.ame_app.specs.Reported.{reported};
-ghost use Rattle.ame_app.specs.declared.parts.Own.{Own};
+ghost use Rattle.ame_app.specs.declared.parts.ReportPart.{ReportPart};
 ghost use Rattle.ame_app.specs.Standard.{told_by, two_new, with_new, ComeBack, CountAndAddIfAble};
 ghost use Rattle.ame_app.specs.Verdict.{unread};
 
@@ -59,7 +59,7 @@ where
     ensures two { IfSome result.run (λ _. vec_len result.devices ≡ 2) }
     ensures devices { IfOk words (λ _. ComeBack (vec_len result.devices) (reported result)) }
     ensures kinds { IfSome (reported result).run (λ run. CountAndAddIfAble run result.devices.items) }
-    ensures unread { IfErr words (λ fault. (result.command ≡ None) × IsToldAlone [] Own.Nothing (unread fault) (reported result)
+    ensures unread { IfErr words (λ fault. (result.command ≡ None) × IsToldAlone [] ReportPart.Nothing (unread fault) (reported result)
         (ends_of K.written K.faults told_by sink [])
         (ends_of K.written K.faults told_by result.sink result.devices.items)) }
     ensures small { vec_len result.text ≤ READ_LIMIT }

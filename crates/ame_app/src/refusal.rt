@@ -5,7 +5,7 @@ ghost use Rattle.ame_shell.specs.Ends.{ends_of};
 ghost use Rattle.ame_app.specs.Headline.{IsToldAlone};
 ghost use Rattle.ame_app.specs.Reported.{reported};
 
-use crate::parts::Own;
+use crate::parts::ReportPart;
 use crate::report::Report;
 use crate::speak::speak_behind;
 use crate::status::Status;
@@ -49,17 +49,17 @@ pub(crate) fn turn_away<K: Sink + Drop, D: Device>(
     ensures command { result.command ≡ refusal.command }
     ensures run { result.run ≡ None }
     ensures devices { result.devices ≡ devices }
-    ensures alone { IsToldAlone [] Own.Nothing refusal.told (reported result)
+    ensures alone { IsToldAlone [] ReportPart.Nothing refusal.told (reported result)
         (ends_of K.written K.faults D.device_told sink devices.items)
         (ends_of K.written K.faults D.device_told result.sink result.devices.items) }
 {
-    tell(&[], Own::Nothing, refusal, sink, devices)
+    tell(&[], ReportPart::Nothing, refusal, sink, devices)
 }
 
 /// Writes some bytes and the verdict line, and reports why no run was begun, with what the command has of its own.
 fn tell<K: Sink + Drop, D: Device>(
     ahead: &[u8],
-    own: Own,
+    own: ReportPart,
     refusal: Refusal,
     sink: K,
     devices: Vec<D>,
@@ -94,7 +94,7 @@ fn tell<K: Sink + Drop, D: Device>(
 /// Writes and reports that with a sink and devices that are one value.
 pub(crate) fn turn_back<K: Sink + Drop, D: Device>(
     ahead: &[u8],
-    own: Own,
+    own: ReportPart,
     refusal: Refusal,
     io: Io<K, D>,
 ) -> Report<K, D>

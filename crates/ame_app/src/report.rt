@@ -1,7 +1,7 @@
 //! The report of a call.
 
-use crate::left::Ran;
-use crate::parts::Own;
+use crate::parts::ReportPart;
+use crate::run_result::Ran;
 use crate::status::Status;
 use ame_cli::Command;
 use ame_journal::{Certificate, Entry};
@@ -17,7 +17,7 @@ pub struct Report<K, D> {
     /// The run, if one was begun.
     pub run: Option<Ran>,
     /// The part that the command adds if no run was begun.
-    pub own: Own,
+    pub own: ReportPart,
     pub sink: K,
     pub devices: Vec<D>,
 }
@@ -26,7 +26,7 @@ impl<K, D> Report<K, D> {
     ghost use Rattle.std.specs.Prelude.{◌≡◌, ◌≢◌, ℕ, [], IfSome, None};
     ghost use Rattle.ame_app.specs.declared.status.Status.{Status};
     ghost use Rattle.ame_app.specs.Verdict.{number_of};
-    ghost use Rattle.ame_app.specs.Left.{end_in};
+    ghost use Rattle.ame_app.specs.RunResult.{end_in};
 
     /// Returns the number of the status, which is the exit status of a process. Drops the rest.
     pub fn into_number(self) -> u8

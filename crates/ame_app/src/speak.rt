@@ -5,7 +5,7 @@ ghost use Rattle.ame_app.specs.Jobs.{Speaks, SpeaksAfter, SpeaksBehind};
 ghost use Rattle.ame_app.specs.Verbs.{written_behind};
 ghost use Rattle.ame_app.specs.Verdict.{verdict};
 
-use crate::left::Left;
+use crate::run_result::RunResult;
 use crate::status::Status;
 use crate::verbs::write_behind;
 use ame_cli::Command;
@@ -26,7 +26,7 @@ pub(crate) fn speak_behind<K: Sink>(sink: &mut K, ahead: &[u8], told: Status) ->
 }
 
 /// Writes the verdict line of a run, and then what its command writes after it.
-fn speak_of<K: Sink>(sink: &mut K, told: Status, command: &Command, left: &Left) -> Status
+fn speak_of<K: Sink>(sink: &mut K, told: Status, command: &Command, left: &RunResult) -> Status
     ensures { Speaks told (verdict told ++ written_behind command.now left.now told) result
         (K.written sink.old) (K.faults sink.old) (K.written sink.new) (K.faults sink.new) }
 {
@@ -45,7 +45,7 @@ fn speak_on<K: Sink>(
     stopped: Option<Stop>,
     told: Status,
     command: &Command,
-    left: &Left,
+    left: &RunResult,
 ) -> Status
     ensures { SpeaksBehind stopped told (verdict told ++ written_behind command.now left.now told) result
         (K.written sink.old) (K.faults sink.old) (K.written sink.new) (K.faults sink.new) }
@@ -62,7 +62,7 @@ fn speak_weakly<K: Sink>(
     ahead: &[u8],
     told: Status,
     command: &Command,
-    left: &Left,
+    left: &RunResult,
 ) -> Status
     ensures { Speaks told (ahead.now ++ (verdict told ++ written_behind command.now left.now told)) result
         (K.written sink.old) (K.faults sink.old) (K.written sink.new) (K.faults sink.new) }
@@ -79,13 +79,13 @@ pub(crate) fn speak_after<K: Sink>(
     ahead: &[u8],
     told: Status,
     command: &Command,
-    left: &Left,
+    left: &RunResult,
 ) -> Status
     ensures { SpeaksAfter left.now ahead.now told (verdict told ++ written_behind command.now left.now told) result
         (K.written sink.old) (K.faults sink.old) (K.written sink.new) (K.faults sink.new) }
 {
     match left {
-        Left::Engine(ended, _) => speak_on(sink, ended.stopped(), told, command, left),
-        Left::Weak(_) => speak_weakly(sink, ahead, told, command, left),
+        RunResult::Engine(ended, _) => speak_on(sink, ended.stopped(), told, command, left),
+        RunResult::Weak(_) => speak_weakly(sink, ahead, told, command, left),
     }
 }

@@ -3,10 +3,10 @@
 ghost use Rattle.std.specs.Prelude.{◌≡◌};
 ghost use Rattle.ame_app.specs.Verdict.{number_of, verdict};
 ghost use Rattle.ame_app.specs.Causes.{status_at, status_of};
-ghost use Rattle.ame_app.specs.Left.{end_in};
+ghost use Rattle.ame_app.specs.RunResult.{end_in};
 
 use crate::fault::TextFault;
-use crate::left::Left;
+use crate::run_result::RunResult;
 use crate::verdict::{device_failed, ill_typed, numbered, plain, refused};
 use ame_engine::Stop;
 use ame_io::Line;
@@ -107,7 +107,7 @@ impl Status {
     }
 
     /// Returns the status of a finished run.
-    pub(crate) fn of(left: &Left) -> Status
+    pub(crate) fn of(left: &RunResult) -> Status
         ensures { result ≡ status_of (end_in left.now) }
     {
         Status::at(left.stopped(), left.certificates())

@@ -17,8 +17,8 @@ ghost use Rattle.ame_io.specs.Writes.{AppendsFront};
 ghost use Rattle.ame_app.specs.Jobs.{IsOpened, IsOutlook, IsRunMade, IsUntaken};
 ghost use Rattle.ame_app.specs.Verbs as spec;
 
-use crate::left::Left;
-use crate::parts::{Front, Own};
+use crate::parts::{Front, ReportPart};
+use crate::run_result::RunResult;
 use crate::status::Status;
 use ame_cli::Command;
 use ame_code::Code;
@@ -45,7 +45,7 @@ pub(crate) struct Job {
 
 /// The parts that a command takes of the bytes that it is given.
 #[derive(Drop)]
-pub(crate) struct Taken {
+pub(crate) struct CommandInput {
     pub(crate) front: Front,
     pub(crate) text: Vec<u8>,
 }
@@ -55,7 +55,7 @@ pub(crate) struct Taken {
 pub struct Settled {
     pub told: Status,
     pub ahead: Vec<u8>,
-    pub own: Own,
+    pub own: ReportPart,
 }
 
 /// The way in which a job goes on: by a status, or by a run.
@@ -70,8 +70,8 @@ pub(crate) enum Outlook {
 }
 
 /// A finished run. If it was weak, `ahead` has its lines, which are yet to be written.
-pub(crate) struct Made<K: Sink, D: Device> {
-    pub(crate) left: Left,
+pub(crate) struct FinishedRun<K: Sink, D: Device> {
+    pub(crate) left: RunResult,
     pub(crate) ahead: Vec<u8>,
     pub(crate) io: Io<K, D>,
 }
@@ -92,7 +92,7 @@ pub(crate) fn reads_source(command: &Command) -> bool
 }
 
 /// Returns the front and the text of a command. The error is the status of bytes that it doesn't take.
-pub(crate) fn take(alloc: Global, command: &Command, bytes: Vec<u8>) -> Result<Taken, Status>
+pub(crate) fn take(alloc: Global, command: &Command, bytes: Vec<u8>) -> Result<CommandInput, Status>
     requires ranges { IsInRange command.now }
     requires most { vec_len bytes ≤ READ_LIMIT }
     ensures takes { IfOk result (λ taken. spec.TakesInput command.now bytes.items taken.front taken.text.items) }
@@ -108,7 +108,7 @@ pub(crate) fn take(alloc: Global, command: &Command, bytes: Vec<u8>) -> Result<T
 }
 
 /// Makes a status with no bytes before the verdict line.
-pub(crate) fn told_alone(alloc: Global, told: Status, own: Own) -> Settled
+pub(crate) fn told_alone(alloc: Global, told: Status, own: ReportPart) -> Settled
     ensures told { result.told ≡ told }
     ensures ahead { result.ahead.items ≡ [] }
     ensures own { result.own ≡ own }
@@ -145,7 +145,7 @@ pub(crate) fn make<R, K, D, G>(
     engine: Option<Engine<Fragment>>,
     io: Io<K, D>,
     gate: &G,
-) -> Result<Made<K, D>, Io<K, D>>
+) -> Result<FinishedRun<K, D>, Io<K, D>>
 where
     R: Threads + Wait + Sync,
     K: Sink + Send + Drop,
@@ -178,7 +178,7 @@ pub(crate) fn make_alone<K, D>(
     alloc: Global,
     job: &Job,
     io: Io<K, D>,
-) -> Result<Made<K, D>, Io<K, D>>
+) -> Result<FinishedRun<K, D>, Io<K, D>>
 where
     K: Sink + Drop,
     D: Device,
@@ -202,7 +202,7 @@ where
 pub(crate) fn write_behind<K: Sink>(
     sink: &mut K,
     command: &Command,
-    left: &Left,
+    left: &RunResult,
     told: &Status,
 ) -> Result<(), WriteFault>
     ensures whole { OnOk result (Appends (K.written sink.old) (K.written sink.new) (spec.written_behind command.now left.now told.now)) }

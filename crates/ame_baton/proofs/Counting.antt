@@ -6,7 +6,7 @@ use Rattle.ame_baton.specs.declared.view.Knows.{Knows}
 use Rattle.ame_baton.specs.declared.view.LastSeen.{LastSeen}
 use Rattle.ame_baton.specs.declared.tally.Tally.{Tally}
 use Rattle.ame_baton.specs.Seats.{entries_by, Takes, MayGive, Gives, HasEnded}
-use Rattle.ame_baton.specs.Tallies.{TallyStandsFor, Counts, IsAsBefore, times_of}
+use Rattle.ame_baton.specs.Tallies.{TallyStandsFor, CountsSeat, IsAsBefore, times_of}
 use Rattle.ame_baton.proofs.Keeping.{entries_given, row_kept}
 use Rattle.ame_baton.proofs.Taking.{and_of, may_give, stands_now, row_now, set_again}
 
@@ -20,7 +20,7 @@ abbrev any : ℕ → Type 0
 any row = Unit {0}
 
 module _ (before k : Known) (t t' : Tally) (taken : Takes TallyStandsFor own before t k) where
-  pub may_count : {T E : Type 0} (r : Result T E) → OnOk r (Counts k.number t t') → OnErr r (IsAsBefore t t') → MayGive TallyStandsFor own any k t'
+  pub may_count : {T E : Type 0} (r : Result T E) → OnOk r (CountsSeat k.number t t') → OnErr r (IsAsBefore t t') → MayGive TallyStandsFor own any k t'
   may_count (Ok x) ok err = may_give TallyStandsFor own k any t t' (length t'.log.items) (k.number ∷ []) (stands_now TallyStandsFor own before k t taken) tt
       (All-cons (λ s. s ≡ k.number) k.number [] refl (All-nil (λ s. s ≡ k.number)))
       (λ f h. (

@@ -6,7 +6,7 @@ use Rattle.crossbeam_queue.specs.Fifo.{Merges}
 use Rattle.crossbeam_queue.proofs.Lists.{set_else}
 use Rattle.ame_baton.specs.declared.view.Knows.{Knows}
 use Rattle.ame_baton.specs.declared.view.LastSeen.{LastSeen}
-use Rattle.ame_baton.specs.Seats.{left_by, Stays}
+use Rattle.ame_baton.specs.Seats.{left_by, IsThereAsLeft}
 use Rattle.ame_baton.specs.Rule.{nothing_known, Truth, Agrees, KnowsTruth, TurnIs}
 use Rattle.ame_baton.proofs.Lookups.{get_snoc, at_within, all_set}
 use Rattle.ame_baton.proofs.Reading.{Rule, beyond, not_holder, opened, seated, not_both, Place}
@@ -72,7 +72,7 @@ module _ {S F R E : Type 0} (stands_for : S → F → List R → List E → Type
           each = all_set (KnowsTruth seat_of t') vs other spent gone (λ j w ne e. all_set (λ j w. j ≢ other → KnowsTruth seat_of t' j w) views port both (λ _. mine)
               (λ j w ne' e' ne''. fits_joined t (left_by u) j w (λ z. ne' (z ∙ sym port_is)) (λ z. ne'' (z ∙ sym other_is)) (o.each j w e')) j w e ne);
           joined = λ i it e. ⊎_elim (λ (old : slice_get t.ended i ≡ Some it). o.joined i it old)
-              (λ (new : (i ≡ length t.ended) × (left_by u ≡ it)). subst (λ (y : ℕ × LastSeen R E). Stays seat_of y.0 y.1 t.rows t.entries) (λ k. ((other_is ∙ ap (λ n. n + 1) (sym new.0)) k, new.1 k)) b.stays)
+              (λ (new : (i ≡ length t.ended) × (left_by u ≡ it)). subst (λ (y : ℕ × LastSeen R E). IsThereAsLeft seat_of y.0 y.1 t.rows t.entries) (λ k. ((other_is ∙ ap (λ n. n + 1) (sym new.0)) k, new.1 k)) b.stays)
               (get_snoc t.ended (left_by u) it i e);
           not_made = o.not_made;
           turn = turn_joined t (t.ended ++ left_by u ∷ []) views port other v u both spent items at free free was ufree refl o.turn;

@@ -6,7 +6,7 @@ use Rattle.crossbeam_queue.specs.Fifo.{Pops, Learns}
 use Rattle.crossbeam_queue.proofs.Lists.{set_here}
 use Rattle.ame_baton.specs.declared.view.Knows.{Knows}
 use Rattle.ame_baton.specs.declared.view.LastSeen.{LastSeen}
-use Rattle.ame_baton.specs.Seats.{left_by, Stays, IsUntouched, IsElsewhere}
+use Rattle.ame_baton.specs.Seats.{left_by, IsThereAsLeft, IsUntouched, IsElsewhere}
 use Rattle.ame_baton.specs.Rule.{Truth, Agrees, KnowsTruth, TurnIs, Popped}
 use Rattle.ame_baton.proofs.Lookups.{at_within, all_set, prefix_self}
 use Rattle.ame_baton.proofs.Reading.{Rule, beyond, opened, seated, not_both, Place}
@@ -28,14 +28,14 @@ module _ {S F R E : Type 0} (stands_for : S → F → List R → List E → Type
   )
   turn_taken t views port v w x (y ∷ ys) at holds rows seen turn = absurd turn
 
-  popped : (t : Truth F R E) (v : Knows F R E) (x : S) (port : ℕ) → Agrees seat_of t port v → ((i : ℕ) (it : LastSeen R E) → slice_get t.ended i ≡ Some it → Stays seat_of (i + 1) it t.rows t.entries)
+  popped : (t : Truth F R E) (v : Knows F R E) (x : S) (port : ℕ) → Agrees seat_of t port v → ((i : ℕ) (it : LastSeen R E) → slice_get t.ended i ≡ Some it → IsThereAsLeft seat_of (i + 1) it t.rows t.entries)
       → ((n : ℕ) → t.made ≤ n → IsUntouched empty seat_of n t.rows t.entries) → stands_for x t.fixed t.rows t.entries
       → Popped stands_for empty seat_of v x (record v { holds = true; rows = t.rows; seen = t.entries })
   popped t v x port a joined not_made stands = record {
     takes = record {
       stands = subst (λ (o : Option F). IsSomeAnd o (λ f. stands_for x f t.rows t.entries)) (sym a.opening) stands;
       one_row_a_seat = sym a.seats;
-      stays = subst (λ (n : ℕ). Stays seat_of n (left_by v) t.rows t.entries) (sym a.number) a.stays;
+      stays = subst (λ (n : ℕ). IsThereAsLeft seat_of n (left_by v) t.rows t.entries) (sym a.number) a.stays;
       rest = refl;
     };
     others = λ zero_is. let is = a.leads (sym a.number ∙ zero_is) in record {

@@ -5,7 +5,7 @@ use lib.ListN.{get_elem?}
 use Rattle.crossbeam_queue.specs.Fifo.{Pushes, Learns}
 use Rattle.ame_baton.specs.declared.view.Knows.{Knows}
 use Rattle.ame_baton.specs.declared.view.LastSeen.{LastSeen}
-use Rattle.ame_baton.specs.Seats.{entries_by, left_by, Stays, IsUntouched, MayGive, having_given, Gives}
+use Rattle.ame_baton.specs.Seats.{entries_by, left_by, IsThereAsLeft, IsUntouched, MayGive, having_given, Gives}
 use Rattle.ame_baton.specs.Rule.{nothing_known, Truth, Agrees, KnowsTruth, TurnIs}
 use Rattle.ame_baton.proofs.Lookups.{get_within, at_within, all_set}
 use Rattle.ame_baton.proofs.Staying.{stays_else, stays_here, untouched_else}
@@ -32,9 +32,9 @@ module _ {S F R E : Type 0} (stands_for : S → F → List R → List E → Type
       )
 
   stays_given : (t : Truth F R E) (v : Knows F R E) (row : R) (added : List E) → v.rows ≡ t.rows → v.seen ≡ t.entries → All (λ e. seat_of e ≡ v.number) added → (j : ℕ) (it : LastSeen R E) → j ≢ v.number
-      → Stays seat_of j it t.rows t.entries → Stays seat_of j it (set v.rows v.number row) (v.seen ++ added)
+      → IsThereAsLeft seat_of j it t.rows t.entries → IsThereAsLeft seat_of j it (set v.rows v.number row) (v.seen ++ added)
   stays_given t v row added rows seen all j it ne s = stays_else seat_of v.number j it v.rows v.seen row added ne all
-      (subst (λ (y : List R × List E). Stays seat_of j it y.0 y.1) (λ i. (sym rows i, sym seen i)) s)
+      (subst (λ (y : List R × List E). IsThereAsLeft seat_of j it y.0 y.1) (λ i. (sym rows i, sym seen i)) s)
 
   untouched_given : (t : Truth F R E) (v : Knows F R E) (row : R) (added : List E) → v.rows ≡ t.rows → v.seen ≡ t.entries → All (λ e. seat_of e ≡ v.number) added → (n : ℕ) → n ≢ v.number
       → IsUntouched empty seat_of n t.rows t.entries → IsUntouched empty seat_of n (set v.rows v.number row) (v.seen ++ added)
@@ -43,7 +43,7 @@ module _ {S F R E : Type 0} (stands_for : S → F → List R → List E → Type
 
   -- another seat's view agrees still, if only rows and entries changed
   fits_given : (t t' : Truth F R E) (j : ℕ) (u : Knows F R E) → t.fixed ≡ t'.fixed → t.made ≡ t'.made → t.ended ≡ t'.ended → length t.rows ≡ length t'.rows
-      → (Stays seat_of j (left_by u) t.rows t.entries → Stays seat_of j (left_by u) t'.rows t'.entries) → KnowsTruth seat_of t j u → KnowsTruth seat_of t' j u
+      → (IsThereAsLeft seat_of j (left_by u) t.rows t.entries → IsThereAsLeft seat_of j (left_by u) t'.rows t'.entries) → KnowsTruth seat_of t j u → KnowsTruth seat_of t' j u
   fits_given t t' j u fixed made ended long stays fits = let ends : length t.ended ≡ length t'.ended = ap length ended in
       ⊎_elim (λ (x : (0 < j) × (j ≤ length t.ended) × (u.fixed ≡ None) × (u.holds ≡ false)). inl (x.0, omega arith, x.2, x.3))
       (λ (x : Place (length t.ended) j × Agrees seat_of t j u). inr (
@@ -70,10 +70,10 @@ module _ {S F R E : Type 0} (stands_for : S → F → List R → List E → Type
       let long : length (set v.rows v.number may.row) ≡ length t.rows = length-set v.rows v.number may.row ∙ ap length so.0 in
       let within = at_within views port v at in let made = o.made in let enough = o.enough in let number = a.number in
       let in_rows : v.number < length v.rows = omega (arith, ap length so.0) in
-      let own : Stays seat_of port (left_by w) t'.rows t'.entries = subst (λ (n : ℕ). Stays seat_of n (left_by w) t'.rows t'.entries) number
+      let own : IsThereAsLeft seat_of port (left_by w) t'.rows t'.entries = subst (λ (n : ℕ). IsThereAsLeft seat_of n (left_by w) t'.rows t'.entries) number
       (stays_here seat_of v.number v.rows v.seen v.own may.row may.added in_rows may.by_seat
       (subst (λ (y : ℕ × List E). entries_by seat_of y.0 y.1 ≡ v.own) (λ i. (sym number i, sym so.1 i)) a.stays.own)) in
-      let other : (j : ℕ) (it : LastSeen R E) → j ≢ port → Stays seat_of j it t.rows t.entries → Stays seat_of j it t'.rows t'.entries =
+      let other : (j : ℕ) (it : LastSeen R E) → j ≢ port → IsThereAsLeft seat_of j it t.rows t.entries → IsThereAsLeft seat_of j it t'.rows t'.entries =
       λ j it ne. stays_given t v may.row may.added so.0 so.1 may.by_seat j it (λ e. ne (e ∙ number)) in
       let untouched : (n : ℕ) → n ≢ port → IsUntouched empty seat_of n t.rows t.entries → IsUntouched empty seat_of n t'.rows t'.entries =
       λ n ne. untouched_given t v may.row may.added so.0 so.1 may.by_seat n (λ e. ne (e ∙ number)) in

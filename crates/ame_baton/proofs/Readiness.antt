@@ -4,7 +4,7 @@ use Rattle.ame_baton.specs.declared.view.Knows.{Knows}
 use Rattle.ame_baton.specs.declared.view.LastSeen.{LastSeen}
 use Rattle.ame_baton.specs.declared.seats.SeatAt.{SeatAt}
 use Rattle.ame_baton.specs.declared.turn.Baton.{Baton}
-use Rattle.ame_baton.specs.Seats.{left_by, Stays, HasEnded}
+use Rattle.ame_baton.specs.Seats.{left_by, IsThereAsLeft, HasEnded}
 use Rattle.ame_baton.specs.Rule.{OthersStay, Popped}
 use Rattle.ame_baton.specs.Batons.{IsReadySeat, AreReady}
 
@@ -39,6 +39,6 @@ module _ {S F R E : Type 0} (stands_for : S → F → List R → List E → Type
     stays = each o;
     not_made = λ n le. o.not_made n (omega arith);
   } where
-    each : OthersStay empty seat_of (record first { ended = left }) after.rows after.seen → (n : ℕ) (it : LastSeen R E) → slice_get (left_by first ∷ left) n ≡ Some it → Stays seat_of n it after.rows after.seen
-    each o zero it e = let is : left_by first ≡ it = cc in subst (λ (y : ℕ × LastSeen R E). Stays seat_of y.0 y.1 after.rows after.seen) (λ i. (zero_is i, is i)) p.takes.stays
-    each o (suc n) it e = let P : ℕ → Type 0 = λ k. Stays seat_of k it after.rows after.seen in let e' : n + 1 ≡ suc n = omega arith in subst P e' (o.ended n it e)
+    each : OthersStay empty seat_of (record first { ended = left }) after.rows after.seen → (n : ℕ) (it : LastSeen R E) → slice_get (left_by first ∷ left) n ≡ Some it → IsThereAsLeft seat_of n it after.rows after.seen
+    each o zero it e = let is : left_by first ≡ it = cc in subst (λ (y : ℕ × LastSeen R E). IsThereAsLeft seat_of y.0 y.1 after.rows after.seen) (λ i. (zero_is i, is i)) p.takes.stays
+    each o (suc n) it e = let P : ℕ → Type 0 = λ k. IsThereAsLeft seat_of k it after.rows after.seen in let e' : n + 1 ≡ suc n = omega arith in subst P e' (o.ended n it e)

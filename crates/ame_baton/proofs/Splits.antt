@@ -5,7 +5,7 @@ use lib.ListN.{get_elem?}
 use Rattle.crossbeam_queue.specs.Fifo.{Forks}
 use Rattle.crossbeam_queue.proofs.Lists.{set_else, at_longer}
 use Rattle.ame_baton.specs.declared.view.Knows.{Knows}
-use Rattle.ame_baton.specs.Seats.{left_by, Stays, next_seat}
+use Rattle.ame_baton.specs.Seats.{left_by, IsThereAsLeft, next_seat}
 use Rattle.ame_baton.specs.Rule.{Truth, Agrees, KnowsTruth, TurnIs}
 use Rattle.ame_baton.proofs.Lookups.{get_there, all_set, all_snoc}
 use Rattle.ame_baton.proofs.Staying.{entries_before}
@@ -51,7 +51,7 @@ module _ {S F R E : Type 0} (stands_for : S → F → List R → List E → Type
           number = made_is ∙ (made ∙ sym count);
           opening = a.opening;
           seats = a.seats;
-          stays = subst (λ n. Stays seat_of n (left_by r) t.rows t.entries) (made_is ∙ (made ∙ sym count)) (record {
+          stays = subst (λ n. IsThereAsLeft seat_of n (left_by r) t.rows t.entries) (made_is ∙ (made ∙ sym count)) (record {
             row = there.1 ∙ ap Some (untouched.row there.0 there.1);
             goes_on = a.stays.goes_on;
             own = untouched.none;

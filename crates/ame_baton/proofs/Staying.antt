@@ -4,7 +4,7 @@ use Rattle.std.proofs.lemmas.List.{append-nil, append_cancel_left}
 use mathlib.Core.List.{IsPrefix}
 use Rattle.std.proofs.lemmas.List.Elements.{filter-append, All-nil, All-cons, All-head, All-tail}
 use Rattle.ame_baton.specs.declared.view.LastSeen.{LastSeen}
-use Rattle.ame_baton.specs.Seats.{entries_by, Stays, IsUntouched}
+use Rattle.ame_baton.specs.Seats.{entries_by, IsThereAsLeft, IsUntouched}
 use Rattle.ame_baton.proofs.Lookups.{get_set_here, get_set_else, prefix_self, prefix_more}
 
 none_first : {E : Type 0} (xs ys : List E) → xs ++ ys ≡ [] → xs ≡ []
@@ -68,7 +68,7 @@ module _ {E : Type 0} (seat_of : E → ℕ) where
 
 module _ {R E : Type 0} (seat_of : E → ℕ) where
   pub stays_else : (n m : ℕ) (it : LastSeen R E) (rows : List R) (entries : List E) (row : R) (added : List E) → m ≢ n → All (λ e. seat_of e ≡ n) added
-      → Stays seat_of m it rows entries → Stays seat_of m it (set rows n row) (entries ++ added)
+      → IsThereAsLeft seat_of m it rows entries → IsThereAsLeft seat_of m it (set rows n row) (entries ++ added)
   stays_else n m it rows entries row added ne all s = record {
     row = get_set_else rows n m row ne ∙ s.row;
     goes_on = prefix_more it.seen entries added s.goes_on;
@@ -77,7 +77,7 @@ module _ {R E : Type 0} (seat_of : E → ℕ) where
   }
 
   pub stays_here : (n : ℕ) (rows : List R) (entries own : List E) (row : R) (added : List E) → n < length rows → All (λ e. seat_of e ≡ n) added → entries_by seat_of n entries ≡ own
-      → Stays seat_of n (record { row = row; seen = entries ++ added; own = own ++ added }) (set rows n row) (entries ++ added)
+      → IsThereAsLeft seat_of n (record { row = row; seen = entries ++ added; own = own ++ added }) (set rows n row) (entries ++ added)
   stays_here n rows entries own row added lt all is = record {
     row = get_set_here rows n row lt;
     goes_on = prefix_self (entries ++ added);

@@ -4,7 +4,7 @@ use mathlib.Core.Option.{some}
 use lib.ListN.{get_elem?}
 use Rattle.ame_baton.specs.declared.view.Knows.{Knows}
 use Rattle.ame_baton.specs.declared.view.LastSeen.{LastSeen}
-use Rattle.ame_baton.specs.Seats.{left_by, Stays, IsUntouched, Takes}
+use Rattle.ame_baton.specs.Seats.{left_by, IsThereAsLeft, IsUntouched, Takes}
 
 -- what is known before the first state is put in; and what a seat knows once it has joined the first one
 abbrev pub nothing_known : {F R E : Type 0} → R → Knows F R E
@@ -35,7 +35,7 @@ pub record Agrees {F R E : Type 0} (seat_of : E → ℕ) (truth : Truth F R E) (
   pub number : k.number ≡ place
   pub opening : k.fixed ≡ Some truth.fixed
   pub seats : k.seats ≡ length truth.rows
-  pub stays : Stays seat_of place (left_by k) truth.rows truth.entries
+  pub stays : IsThereAsLeft seat_of place (left_by k) truth.rows truth.entries
   pub leads : place ≡ 0 → (k.made ≡ truth.made) × (k.ended ≡ truth.ended)
 
 -- the places from 1 to the number of seats that ended are spent, and every other one agrees
@@ -64,7 +64,7 @@ pub record IsOpen {S F R E : Type 0} (stands_for : S → F → List R → List E
   pub enough : truth.made ≤ length truth.rows
   pub some_left : length truth.ended < truth.made
   pub each : (place : ℕ) (k : Knows F R E) → get_elem? views place ≡ some k → KnowsTruth seat_of truth place k
-  pub joined : (i : ℕ) (it : LastSeen R E) → slice_get truth.ended i ≡ Some it → Stays seat_of (i + 1) it truth.rows truth.entries
+  pub joined : (i : ℕ) (it : LastSeen R E) → slice_get truth.ended i ≡ Some it → IsThereAsLeft seat_of (i + 1) it truth.rows truth.entries
   pub not_made : (n : ℕ) → truth.made ≤ n → IsUntouched empty seat_of n truth.rows truth.entries
   pub turn : TurnIs stands_for truth views items
 
@@ -77,7 +77,7 @@ Turns {F = F} {R = R} {E = E} stands_for empty seat_of items views =
 -- ---- what the first seat knows of the others
 -- what the seats left that have joined this one is there, and no number is used that it has not given to a seat
 pub record OthersStay {F R E : Type 0} (empty : R) (seat_of : E → ℕ) (first : Knows F R E) (rows : List R) (entries : List E) : Type 0 where
-  pub ended : (i : ℕ) (it : LastSeen R E) → slice_get first.ended i ≡ Some it → Stays seat_of (i + 1) it rows entries
+  pub ended : (i : ℕ) (it : LastSeen R E) → slice_get first.ended i ≡ Some it → IsThereAsLeft seat_of (i + 1) it rows entries
   pub not_made : (n : ℕ) → first.made ≤ n → IsUntouched empty seat_of n rows entries
 
 -- a pop: the seat takes the state, and the first seat finds what the others left

@@ -14,7 +14,7 @@ left_by k = record { row = k.row; seen = k.seen; own = k.own }
 
 -- The row and entries left under a number are there: its row is the row that was left, the entries go on from those that were seen,
 -- and the entries of that number are its own, each once and in order. All of these were seen.
-pub record Stays {R E : Type 0} (seat_of : E → ℕ) (number : ℕ) (it : LastSeen R E) (rows : List R) (entries : List E) : Type 0 where
+pub record IsThereAsLeft {R E : Type 0} (seat_of : E → ℕ) (number : ℕ) (it : LastSeen R E) (rows : List R) (entries : List E) : Type 0 where
   pub row : slice_get rows number ≡ Some it.row
   pub goes_on : IsPrefix it.seen entries
   pub own : entries_by seat_of number entries ≡ it.own
@@ -50,7 +50,7 @@ pub record Takes {S F R E : Type 0} (stands_for : S → F → List R → List E 
     (before : Knows F R E) (state : S) (after : Knows F R E) : Type 0 where
   pub stands : IsSomeAnd before.fixed (λ fixed. stands_for state fixed after.rows after.seen)
   pub one_row_a_seat : length after.rows ≡ before.seats
-  pub stays : Stays seat_of before.number (left_by before) after.rows after.seen
+  pub stays : IsThereAsLeft seat_of before.number (left_by before) after.rows after.seen
   pub rest : after ≡ record before { holds = true; rows = after.rows; seen = after.seen }
 
 -- the turn may be with another seat; for the first seat, with one that it made and that has not ended
@@ -84,5 +84,5 @@ pub record HasEnded {S F R E : Type 0} (stands_for : S → F → List R → List
   pub rows : List R
   pub entries : List E
   pub stands : IsSomeAnd fixed (λ f. stands_for state f rows entries)
-  pub stays : (n : ℕ) (it : LastSeen R E) → slice_get seats n ≡ Some it → Stays seat_of n it rows entries
+  pub stays : (n : ℕ) (it : LastSeen R E) → slice_get seats n ≡ Some it → IsThereAsLeft seat_of n it rows entries
   pub not_made : (n : ℕ) → length seats ≤ n → IsUntouched empty seat_of n rows entries

@@ -8,7 +8,7 @@ abbrev pub TallyStandsFor : Tally → ℕ → List ℕ → List ℕ → Type 0
 TallyStandsFor t seats rows entries = (length t.last.items ≡ seats) × (rows ≡ t.last.items) × (entries ≡ t.log.items)
 
 -- the seat counted once more
-pub record Counts (seat : ℕ) (old new : Tally) : Type 0 where
+pub record CountsSeat (seat : ℕ) (old new : Tally) : Type 0 where
   pub log : new.log.items ≡ old.log.items ++ seat ∷ []
   pub last : new.last.items ≡ slice_set old.last.items seat (length new.log.items)
 

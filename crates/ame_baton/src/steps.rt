@@ -8,11 +8,11 @@ use std::marker::PhantomData;
 pub(crate) type View<S> = Knows<<S as Rowed>::Fixed, <S as Rowed>::Row, <S as Rowed>::Entry>;
 
 /// The turn is in one place: in the queue, or with one seat.
-pub struct Turns<S> {
+pub struct TurnRule<S> {
     of: PhantomData<S>,
 }
 
-impl<S: Rowed> Protocol<S, Knows<S::Fixed, S::Row, S::Entry>> for Turns<S> {
+impl<S: Rowed> Protocol<S, Knows<S::Fixed, S::Row, S::Entry>> for TurnRule<S> {
     ghost use Rattle.ame_baton.specs.Rule.{Turns, nothing_known};
 
     ghost holds = { Turns S.stands_for S.empty_row S.seat_of };
@@ -39,17 +39,17 @@ impl<S: Rowed> Lesson<S, Knows<S::Fixed, S::Row, S::Entry>> for Opens<S> {
 }
 
 /// A pop: the seat takes the turn.
-pub struct Takes<S> {
+pub struct Pop<S> {
     of: PhantomData<S>,
 }
 
-impl<S: Rowed> Outcome<S, Knows<S::Fixed, S::Row, S::Entry>> for Takes<S> {
+impl<S: Rowed> Outcome<S, Knows<S::Fixed, S::Row, S::Entry>> for Pop<S> {
     ghost use Rattle.ame_baton.specs.Rule.{Popped};
 
     ghost then = { Popped S.stands_for S.empty_row S.seat_of };
 }
 
-impl<S: Rowed> Lesson<S, Knows<S::Fixed, S::Row, S::Entry>> for Takes<S> {
+impl<S: Rowed> Lesson<S, Knows<S::Fixed, S::Row, S::Entry>> for Pop<S> {
     ghost use Rattle.std.specs.Prelude.{◌≡◌, []};
     ghost use Rattle.ame_baton.specs.Seats.{IsElsewhere};
 
@@ -57,17 +57,17 @@ impl<S: Rowed> Lesson<S, Knows<S::Fixed, S::Row, S::Entry>> for Takes<S> {
 }
 
 /// A push: the seat gives the turn, and leaves a row that `M` allows.
-pub struct Gives<S, M> {
+pub struct Push<S, M> {
     of: PhantomData<(S, M)>,
 }
 
-impl<S: Rowed, M: Leaves<S::Row>> Outcome<S, Knows<S::Fixed, S::Row, S::Entry>> for Gives<S, M> {
+impl<S: Rowed, M: Leaves<S::Row>> Outcome<S, Knows<S::Fixed, S::Row, S::Entry>> for Push<S, M> {
     ghost use Rattle.ame_baton.specs.Seats.{Gives};
 
     ghost then = { Gives S.stands_for S.seat_of M.leaves };
 }
 
-impl<S: Rowed, M: Leaves<S::Row>> Lesson<S, Knows<S::Fixed, S::Row, S::Entry>> for Gives<S, M> {
+impl<S: Rowed, M: Leaves<S::Row>> Lesson<S, Knows<S::Fixed, S::Row, S::Entry>> for Push<S, M> {
     ghost use Rattle.std.specs.Prelude.{◌≡◌, []};
 
     ghost fact = { λ v items. items ≡ [] };
@@ -88,11 +88,11 @@ impl<S: Rowed> Split<Knows<S::Fixed, S::Row, S::Entry>> for Seats<S> {
 }
 
 /// A join: the first seat keeps what another one left.
-pub struct Keeps<S> {
+pub struct Rejoin<S> {
     of: PhantomData<S>,
 }
 
-impl<S: Rowed> Join<Knows<S::Fixed, S::Row, S::Entry>> for Keeps<S> {
+impl<S: Rowed> Join<Knows<S::Fixed, S::Row, S::Entry>> for Rejoin<S> {
     ghost use Rattle.std.specs.Prelude.{[], ◌∷◌, ◌++◌};
     ghost use Rattle.ame_baton.specs.Seats.{left_by};
     ghost use Rattle.ame_baton.specs.Rule.{nothing_known};

@@ -2,7 +2,7 @@
 //! It is an example of a caller, and what the tests run.
 ghost use Rattle.std.specs.Prelude.{◌≡◌, ◌<◌, ◌+◌, ◌++◌, ◌∷◌, [], false, length, replicate, vec_len, IfOk, OnOk, OnErr};
 ghost use Rattle.ame_baton.specs.Batons.{knows, IsSeatOf, IsReadySeat};
-ghost use Rattle.ame_baton.specs.Tallies.{Counts, IsAsBefore, IsSameSeat, times_of};
+ghost use Rattle.ame_baton.specs.Tallies.{CountsSeat, IsAsBefore, IsSameSeat, times_of};
 ghost use Rattle.ame_baton.specs.Counted.{IsFresh, HasCounted};
 
 use crate::seats::Seat;
@@ -58,7 +58,7 @@ impl Tally {
     /// Counts for a seat. Without memory nothing changes.
     pub fn add(&mut self, seat: u32) -> Result<(), AllocError>
         requires { seat < vec_len self.old.last }
-        ensures ok { OnOk result (Counts seat self.old self.new) }
+        ensures ok { OnOk result (CountsSeat seat self.old self.new) }
         ensures err { OnErr result (IsAsBefore self.old self.new) }
     {
         self.log.push(seat)?;

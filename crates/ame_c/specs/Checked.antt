@@ -5,7 +5,7 @@ use Rattle.ame_lex.specs.Bytes.{Text}
 use Rattle.ame_term.specs.View.{tree_of}
 use Rattle.ame_term.specs.declared.accepted.Accepted.{Accepted}
 use Rattle.ame_app.specs.declared.parts.Front.{Front}
-use Rattle.ame_app.specs.declared.parts.Own.{Own}
+use Rattle.ame_app.specs.declared.parts.ReportPart.{ReportPart}
 use Rattle.ame_app.specs.declared.status.Status.{Status}
 use Rattle.ame_app.specs.Jobs.{IsTextStatus}
 use Rattle.ame_app.specs.Texts.{IsProgramOf}
@@ -22,7 +22,7 @@ pub record IsJudgedAs (bytes : List ℕ) (ahead : List ℕ) (told : Status) : Ty
   pub takes : TakesCertificate bytes front text
   pub accepted : Accepted
   pub program : IsProgramOf text device_count accepted
-  pub own : Own
+  pub own : ReportPart
   pub tells : TellsOfJournal (tree_of accepted.program.term) (entries_before front) ahead own told
 
 -- there are more bytes than are read

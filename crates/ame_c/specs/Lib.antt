@@ -3,4 +3,4 @@ pub mod Devices
 pub mod Checked
 pub mod Typed
 pub mod Version
-pub mod Made
+pub mod CallResult

@@ -5,7 +5,7 @@ ghost use Rattle.ame_c.specs.Checked.{IsJudgedAs, IsUnjudged, TellsAhead, TellsL
 ghost use Rattle.ame_c.specs.Out.{bytes_in};
 
 use crate::lines::Lines;
-use ame_app::{Own, Settled, Status, code_of, judge_journal, read_certificate};
+use ame_app::{ReportPart, Settled, Status, code_of, judge_journal, read_certificate};
 use ame_io::READ_LIMIT;
 use std::alloc::Global;
 
@@ -44,7 +44,7 @@ fn told_of(alloc: Global, bytes: &[u8]) -> Settled
         Err(told) => Settled {
             told,
             ahead: Vec::new(alloc),
-            own: Own::Nothing,
+            own: ReportPart::Nothing,
         },
     }
 }

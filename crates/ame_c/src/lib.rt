@@ -1,11 +1,11 @@
 //! The calls of `ame` for programs in C: a static library.
 #![tactic(auto)]
 
+mod call_result;
 mod checked;
 mod lines;
-mod made;
+mod memory_sink;
 mod out;
-mod page;
 mod place;
 mod typed;
 mod whole;
@@ -13,16 +13,16 @@ mod whole;
 ghost use Rattle.std.specs.Prelude.{◌≡◌, []};
 ghost use Rattle.ame_app.specs.declared.alone.Alone.{Alone as Asked};
 ghost use Rattle.ame_c.specs.Checked.{AnswersCheck};
-ghost use Rattle.ame_c.specs.Made.{AnswersRun, AnswersWeak, options_of, texts};
+ghost use Rattle.ame_c.specs.CallResult.{AnswersRun, AnswersWeak, options_of, texts};
 ghost use Rattle.ame_c.specs.Typed.{AnswersTypes};
 ghost use Rattle.ame_c.specs.Version.{version};
 
+use crate::call_result::made_by;
 use crate::checked::answer_of;
-use crate::made::made_by;
 use crate::out::{hand_out, tell};
 use crate::place::rule_of;
 use crate::typed::typed;
-pub use crate::whole::{Limits, Whole};
+pub use crate::whole::{RunLimits, Whole};
 use ame_app::Alone;
 use std::alloc::Global;
 
@@ -69,7 +69,7 @@ pub extern "C" fn ame_sim(
     alloc: Global,
     text: &[u8],
     seed: u32,
-    limits: &Limits,
+    limits: &RunLimits,
     lines: &mut [u8],
     certificate: &mut [u8],
     schedule: &mut [u8],
@@ -88,7 +88,7 @@ pub extern "C" fn ame_sim(
 pub extern "C" fn ame_replay(
     alloc: Global,
     scheduled: &[u8],
-    limits: &Limits,
+    limits: &RunLimits,
     lines: &mut [u8],
     certificate: &mut [u8],
     schedule: &mut [u8],

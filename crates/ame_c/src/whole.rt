@@ -1,20 +1,20 @@
 //! Structs that cross to C.
 
 ghost use Rattle.std.specs.Prelude.{◌≡◌};
-ghost use Rattle.ame_c.specs.Made.{options_of};
+ghost use Rattle.ame_c.specs.CallResult.{options_of};
 
 use ame_cli::Options;
 
 /// The limits of a run: `--workers`, `--turns` and `--slice` of `ame`.
 #[repr(C)]
 #[derive(Clone, Copy)]
-pub struct Limits {
+pub struct RunLimits {
     pub workers: u32,
     pub turns: u32,
     pub slice: u32,
 }
 
-impl Limits {
+impl RunLimits {
     /// Returns the options that these are.
     pub(crate) fn options(&self) -> Options
         ensures { result ≡ options_of self.now }

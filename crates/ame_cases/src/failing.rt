@@ -4,13 +4,13 @@ ghost use Rattle.std.specs.Prelude.{Some};
 ghost use Rattle.ame_device.specs.Calls.{told};
 ghost use Rattle.ame_device.specs.declared.told.DeviceKind.{DeviceKind};
 
-use ame_device::{Device, DeviceFail, Heard, Log};
+use ame_device::{CallLog, Device, DeviceFail, Heard};
 use std::alloc::Global;
 
 /// Answers the next of its answers, and fails if none is left.
 #[derive(Drop)]
 pub struct Tape {
-    log: Log,
+    log: CallLog,
     answers: Vec<i64>,
     at: usize,
 }
@@ -19,7 +19,7 @@ impl Tape {
     /// Makes a device that has heard nothing, over the memory of its answers.
     pub fn new(alloc: Global, answers: Vec<i64>) -> Tape {
         Tape {
-            log: Log::new(alloc),
+            log: CallLog::new(alloc),
             answers,
             at: 0,
         }
@@ -50,7 +50,7 @@ impl Device for Tape {
 /// Answers its argument, and fails at the call with one number. Calls are numbered from 1, with those that fail or run out of memory.
 #[derive(Drop)]
 pub struct FailsAt {
-    log: Log,
+    log: CallLog,
     calls: u64,
     fails_at: u64,
 }
@@ -59,7 +59,7 @@ impl FailsAt {
     /// Makes a device that has heard nothing. It never fails if the number is 0.
     pub fn new(alloc: Global, call: u64) -> FailsAt {
         FailsAt {
-            log: Log::new(alloc),
+            log: CallLog::new(alloc),
             calls: 0,
             fails_at: call,
         }

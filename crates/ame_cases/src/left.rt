@@ -3,7 +3,7 @@
 use crate::fault::Fault;
 use crate::field::Field;
 use crate::told::{CaseReport, line};
-use ame_app::Left;
+use ame_app::RunResult;
 use ame_journal::{Entry, EntryKind};
 use ame_store::Store;
 use ame_term::Loc;
@@ -14,7 +14,7 @@ use std::alloc::{AllocError, Global};
 pub fn left(
     alloc: Global,
     report: &CaseReport,
-    run: &Left,
+    run: &RunResult,
     field: Field,
     is_alone: bool,
 ) -> Result<String, Fault> {
@@ -77,7 +77,7 @@ fn output(alloc: Global, output: &[i64]) -> Result<String, Fault> {
 }
 
 /// Returns the number of turns, and how often a seat was in another's way, if one was.
-fn turns(alloc: Global, run: &Left) -> Result<String, Fault> {
+fn turns(alloc: Global, run: &RunResult) -> Result<String, Fault> {
     let turns = run.turns();
     let (conflicts, invalids) = match run.ended() {
         Some(ended) => (ended.counters().conflicts, ended.counters().invalids),
@@ -90,7 +90,7 @@ fn turns(alloc: Global, run: &Left) -> Result<String, Fault> {
 }
 
 /// Returns the number of values that were put back. A weak run puts none back.
-fn unwound(run: &Left) -> u64 {
+fn unwound(run: &RunResult) -> u64 {
     match run.ended() {
         Some(ended) => u64::from(ended.counters().unwound),
         None => 0,

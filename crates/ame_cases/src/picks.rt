@@ -1,7 +1,7 @@
 //! The effect of each pick of a run on one thread.
 
 use crate::fault::Fault;
-use ame_app::{Extra, Left, Ran};
+use ame_app::{Extra, Ran, RunResult};
 use ame_shell::Outcome;
 use std::alloc::Global;
 
@@ -10,7 +10,7 @@ pub fn picks(alloc: Global, run: &Option<Ran>) -> Result<String, Fault> {
     let mut text = String::new(alloc);
     let Some(
         Ran {
-            left: Left::Engine(_, Extra::Picked(mades)),
+            left: RunResult::Engine(_, Extra::Picked(mades)),
             ..
         },
     ) = run

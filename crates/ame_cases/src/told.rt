@@ -8,7 +8,7 @@ use crate::field::Field;
 use crate::left::left;
 use crate::picks::picks;
 use crate::replay::replayed;
-use ame_app::{Extra, Left, Ran, Report};
+use ame_app::{Extra, Ran, Report, RunResult};
 use ame_code::Code;
 use ame_device::Device;
 use ame_io::MemSink;
@@ -89,7 +89,7 @@ fn resumed(alloc: Global, run: &Option<Ran>) -> Result<String, Fault> {
     match run {
         Some(
             Ran {
-                left: Left::Engine(_, Extra::Resumed(entries)),
+                left: RunResult::Engine(_, Extra::Resumed(entries)),
                 ..
             },
         ) => line(alloc, *entries),

@@ -12,7 +12,7 @@ use Rattle.ame_journal.proofs.NoteLemmas.{notes-dropped}
 use Rattle.ame_machine.specs.Sound.{IsAccepted}
 use Rattle.ame_protocol.specs.declared.types.Limits.{Limits}
 use Rattle.ame_protocol.specs.Engine.Parts.{whole_journal}
-use Rattle.ame_protocol.specs.Event.State.{State}
+use Rattle.ame_protocol.specs.Event.EngineState.{EngineState}
 use Rattle.ame_protocol.specs.Event.Runs.{entries_along}
 use Rattle.ame_protocol.specs.Event.Sound.{Sound}
 use Rattle.ame_protocol.proofs.Event.OpenedLemmas.{sound-opened}
@@ -21,7 +21,7 @@ use Rattle.ame_check.specs.Judge.{LeadsTo, Judges}
 use Rattle.ame_check.specs.declared.judging.Judged.{Judged}
 use Rattle.ame_engine.specs.Ending.{End}
 use Rattle.ame_shell.specs.Ran.{IsStart, IsRanBy}
-use Rattle.ame_certified.specs.Low.{StaysLow}
+use Rattle.ame_certified.specs.Low.{IsLowJournal}
 use Rattle.ame_certified.specs.RoundTrip.{IsRoundTrip}
 use Rattle.ame_certified.proofs.RunLemmas.{run-low, run-valid}
 
@@ -29,39 +29,39 @@ use Rattle.ame_certified.proofs.RunLemmas.{run-low, run-valid}
 
 module _ (program : Tree) (signature : Signature) (limits : Limits) (base : List Entry) (accepted : IsAccepted signature program) (slice : 1 ≤ limits.slice)
     (plain : All (λ (e : Entry). is_note e.kind ≡ false) base) where
-  start-sound : (s : State) → IsStart program signature limits base s → Sound s
+  start-sound : (s : EngineState) → IsStart program signature limits base s → Sound s
   start-sound s (inl starts) = subst Sound (sym starts.1) (sound-start program signature limits accepted slice)
   start-sound s (inr goes) =
       subst Sound (sym goes.state)
       (sound-opened program signature limits base goes.cells goes.pool goes.led goes.types goes.replayed goes.typed goes.has_cells goes.has_members goes.ready plain slice)
 
-  start-program : (s : State) → IsStart program signature limits base s → s.parts.program ≡ program
-  start-program s (inl starts) = ap (λ (x : State). x.parts.program) starts.1
-  start-program s (inr goes) = ap (λ (x : State). x.parts.program) goes.state
+  start-program : (s : EngineState) → IsStart program signature limits base s → s.parts.program ≡ program
+  start-program s (inl starts) = ap (λ (x : EngineState). x.parts.program) starts.1
+  start-program s (inr goes) = ap (λ (x : EngineState). x.parts.program) goes.state
 
-  start-journal : (s : State) → IsStart program signature limits base s → whole_journal s.parts ≡ base
-  start-journal s (inl starts) = ap (λ (x : State). whole_journal x.parts) starts.1 ∙ sym starts.0
-  start-journal s (inr goes) = ap (λ (x : State). whole_journal x.parts) goes.state ∙ nothing-more base
+  start-journal : (s : EngineState) → IsStart program signature limits base s → whole_journal s.parts ≡ base
+  start-journal s (inl starts) = ap (λ (x : EngineState). whole_journal x.parts) starts.1 ∙ sym starts.0
+  start-journal s (inr goes) = ap (λ (x : EngineState). whole_journal x.parts) goes.state ∙ nothing-more base
     where
       nothing-more : (es : List Entry) → es ++ [] ≡ es
       nothing-more [] = refl
       nothing-more (e ∷ es) = ap (λ (xs : List Entry). e ∷ xs) (nothing-more es)
 
-  module _ {V : Type 0} (value : V → Val) (end : End V) (ran : IsRanBy program signature limits base value end) (low : StaysLow program base) where
-    its-low : StaysLow ran.start.parts.program (whole_journal ran.start.parts)
+  module _ {V : Type 0} (value : V → Val) (end : End V) (ran : IsRanBy program signature limits base value end) (low : IsLowJournal program base) where
+    its-low : IsLowJournal ran.start.parts.program (whole_journal ran.start.parts)
     its-low =
-        subst (λ (p : Tree). StaysLow p (whole_journal ran.start.parts)) (sym (start-program ran.start ran.starts))
-        (subst (StaysLow program) (sym (start-journal ran.start ran.starts)) low)
+        subst (λ (p : Tree). IsLowJournal p (whole_journal ran.start.parts)) (sym (start-program ran.start ran.starts))
+        (subst (IsLowJournal program) (sym (start-journal ran.start ran.starts)) low)
 
     whole : whole_journal ran.start.parts ++ entries_along ran.events ≡ base ++ end.entries
     whole =
         ap (λ (xs : List Entry). xs ++ entries_along ran.events) (start-journal ran.start ran.starts)
         ∙ ap (λ (xs : List Entry). base ++ xs) ran.told
 
-    pub ended-low : StaysLow program (base ++ end.entries)
+    pub ended-low : IsLowJournal program (base ++ end.entries)
     ended-low =
-        subst (λ (p : Tree). StaysLow p (base ++ end.entries)) (start-program ran.start ran.starts)
-        (subst (StaysLow ran.start.parts.program) whole
+        subst (λ (p : Tree). IsLowJournal p (base ++ end.entries)) (start-program ran.start ran.starts)
+        (subst (IsLowJournal ran.start.parts.program) whole
         (run-low ran.events ran.start ran.last (start-sound ran.start ran.starts) ran.follows ran.low its-low))
 
     pub ended-valid : (judged : Judged) → Judges program (base ++ end.entries) judged → IsRoundTrip end.output judged
@@ -122,7 +122,7 @@ split-at (suc n) [] within = absurd (omega (arith, within))
 split-at (suc n) (x ∷ xs) within = let s = split-at n xs (omega (arith, within)) in (s.0, ap (λ (es : List Entry). x ∷ es) s.1)
 
 module _ (program : Tree) (entries : List Entry) (output : List ℤ) (leads : LeadsTo program entries output) where
-  pub acts-low : StaysLow program (without_notes entries)
+  pub acts-low : IsLowJournal program (without_notes entries)
   acts-low n tall =
       let s = split-at n (without_notes entries) tall.place.1 in
       let front = take (n - 1) (without_notes entries) in

@@ -13,7 +13,7 @@ use Rattle.ame_journal.specs.Replay.{is_used, attempt_on, left_or_ended, fragmen
 use Rattle.ame_journal.proofs.ReplayLemmas.{replay_from-append}
 use Rattle.ame_check.specs.Entries.{MeetsTall}
 use Rattle.ame_weak.specs.Straight.{arrival_where, ran, freed}
-use Rattle.ame_certified.specs.Low.{StaysLow}
+use Rattle.ame_certified.specs.Low.{IsLowJournal}
 use Rattle.ame_certified.proofs.JudgedLemmas.{one-low}
 
 -- an entry of no step
@@ -51,10 +51,10 @@ arrival-state r t i stands e = by (is_inside r i) e
     by false e = let both : Some t ≡ Some (entering r i r.state) = sym e ∙ comes in let same : t ≡ entering r i r.state = cc in ap (λ (z : Replayed). z.state) same
 
 -- those of a label, by whether the member is inside
-module _ (program : Tree) (journal : List Entry) (r : Replayed) (replayed : replay program journal ≡ Some r) (low : StaysLow program journal)
+module _ (program : Tree) (journal : List Entry) (r : Replayed) (replayed : replay program journal ≡ Some r) (low : IsLowJournal program journal)
     (i : ℕ) (fresh : List ℕ) (answer : Option ℤ) (stands : is_at_unprotected i r.state ≡ true) (calm : is_tall Side.Unprotected i r.state ≡ true → ⊥) where
   pub freed-low : (b : Bool) (behind : Replayed) → replay_from r (arrival_where b i ++ freed i fresh answer ∷ []) ≡ Some behind
-      → StaysLow program (journal ++ (arrival_where b i ++ freed i fresh answer ∷ []))
+      → IsLowJournal program (journal ++ (arrival_where b i ++ freed i fresh answer ∷ []))
   freed-low true behind leads = one-low program journal (freed i fresh answer) r replayed low (freed-met r i fresh answer calm)
   freed-low false behind leads =
       option_and_then_some _ _ _ leads (λ t arrives rest.
@@ -64,7 +64,7 @@ module _ (program : Tree) (journal : List Entry) (r : Replayed) (replayed : repl
       ∙ ap (option_and_then (λ (z : Replayed). Some z)) arrives in
       let same = arrival-state r t i stands arrives in
       let still : is_tall Side.Unprotected i t.state ≡ true → ⊥ = λ tall. calm (ap (is_tall Side.Unprotected i) (sym same) ∙ tall) in
-      subst (StaysLow program) (append_assoc journal (ran i 0 [] ∷ []) (freed i fresh answer ∷ []))
+      subst (IsLowJournal program) (append_assoc journal (ran i 0 [] ∷ []) (freed i fresh answer ∷ []))
       (one-low program (journal ++ ran i 0 [] ∷ []) (freed i fresh answer) t so first (freed-met t i fresh answer still)))
 
 -- a member that closes is at no such form

@@ -11,7 +11,7 @@ use Rattle.ame_check.specs.Judge.{PassesTallAt, LeadsTo, IsInvalid, Judges}
 use Rattle.ame_check.specs.declared.reason.Reason.{Reason}
 use Rattle.ame_check.specs.declared.judging.Judged.{Judged}
 use Rattle.ame_check.specs.declared.judging.Judged.TheVariants as judged
-use Rattle.ame_certified.specs.Low.{StaysLow}
+use Rattle.ame_certified.specs.Low.{IsLowJournal}
 use Rattle.ame_certified.specs.RoundTrip.{IsRoundTrip, IsNeverInvalid}
 
 module _ (program : Tree) (entries : List Entry) (r : Replayed) where
@@ -31,7 +31,7 @@ never-invalid program entries r (judged.Invalid n why) replayed so = not-invalid
 never-invalid program entries r (judged.Long n) replayed so = tt
 never-invalid program entries r (judged.Tall n) replayed so = tt
 
-pub judged-valid : (program : Tree) (entries : List Entry) (r : Replayed) (judged : Judged) → replay program entries ≡ Some r → StaysLow program entries
+pub judged-valid : (program : Tree) (entries : List Entry) (r : Replayed) (judged : Judged) → replay program entries ≡ Some r → IsLowJournal program entries
     → Judges program entries judged → IsRoundTrip r.state.output judged
 judged-valid program entries r (judged.Valid output) replayed low so = output-is program entries r output.items replayed so
 judged-valid program entries r (judged.Invalid n why) replayed low so = not-invalid program entries r n why replayed so
@@ -40,12 +40,12 @@ judged-valid program entries r (judged.Tall n) replayed low so = low n so.there.
 
 -- no entry
 
-pub none-low : (program : Tree) → StaysLow program []
+pub none-low : (program : Tree) → IsLowJournal program []
 none-low program n tall = let first : 1 ≤ n = tall.place.0 in let last : n ≤ 0 = tall.place.1 in omega arith
 
 -- one more entry, which meets no such form
 
-module _ (program : Tree) (entries : List Entry) (entry : Entry) (r : Replayed) (replayed : replay program entries ≡ Some r) (low : StaysLow program entries)
+module _ (program : Tree) (entries : List Entry) (entry : Entry) (r : Replayed) (replayed : replay program entries ≡ Some r) (low : IsLowJournal program entries)
     (meets : MeetsTall r entry → ⊥) where
   before : (k : ℕ) → k ≤ length entries → take k (entries ++ entry ∷ []) ≡ take k entries
   before k within = take-append-le k entries (entry ∷ []) within
@@ -74,7 +74,7 @@ module _ (program : Tree) (entries : List Entry) (entry : Entry) (r : Replayed) 
       let there : r ≡ tall.led = cc in
       meets (subst (λ (e : Entry). MeetsTall r e) (sym same.1) (subst (λ (t : Replayed). MeetsTall t tall.entry) (sym there) tall.meets))
 
-  pub one-low : StaysLow program (entries ++ entry ∷ [])
+  pub one-low : IsLowJournal program (entries ++ entry ∷ [])
   one-low n tall = elim (cases_lt (length entries) n) [
     | inl far ↦ last n (let longer : length (entries ++ entry ∷ []) ≡ length entries + 1 = length-append entries (entry ∷ []) in let most : n ≤ length (entries ++ entry ∷ []) = tall.place.1 in omega arith) tall
     | inr within ↦ early n within tall

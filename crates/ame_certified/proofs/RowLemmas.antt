@@ -17,7 +17,7 @@ use Rattle.ame_protocol.specs.Engine.Parts.{Parts, whole_journal, heap_in, task_
 use Rattle.ame_protocol.specs.Engine.Simulates.{Simulates}
 use Rattle.ame_protocol.specs.Visits.Visit.{StepsTo, IsVisit, free_entry}
 use Rattle.ame_protocol.specs.Visits.Stops.{MayBeNoted, note_entry}
-use Rattle.ame_protocol.specs.Event.State.{State}
+use Rattle.ame_protocol.specs.Event.EngineState.{EngineState}
 use Rattle.ame_protocol.proofs.Row.ValidLemmas.{agrees}
 use Rattle.ame_protocol.proofs.Engine.AccessLemmas.{runs}
 use Rattle.ame_protocol.proofs.Engine.MemoryLemmas.{memory-committed}
@@ -57,7 +57,7 @@ module _ (parts : Parts) (s : Simulates parts) (seat : ℕ) (attempt : Attempt) 
   visited-met task _ _ _ _ (IsVisit.closed n p v ran value) low = visit-met task n p ran _ refl (omega arith) low
 
 -- a row that is noted
-module _ (s : State) (h : Simulates s.parts) (seat : ℕ) where
+module _ (s : EngineState) (h : Simulates s.parts) (seat : ℕ) where
   pub noted-met : (kind : EntryKind) (task : Task) (side : Side) (number n : ℕ) (p : LocalState) → MayBeNoted s.parts seat task side number n p
       → task_at s.parts.tasks seat ≡ task → WorkGoesLow s.parts seat task n → MeetsTall h.r (note_entry kind seat number n p) → ⊥
   noted-met kind _ _ _ _ _ (MayBeNoted.running attempt n p place valid) is low =

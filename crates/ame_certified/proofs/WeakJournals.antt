@@ -16,7 +16,7 @@ use Rattle.ame_weak.specs.Tries.{AreTried, straight_with}
 use Rattle.ame_weak.specs.declared.tries.Try.{Try}
 use Rattle.ame_runner.specs.Within.{AreTriedWithin}
 use Rattle.ame_weak.proofs.StraightLemmas.{past_all, ends-strong, begun-followed}
-use Rattle.ame_certified.specs.Low.{StaysLow}
+use Rattle.ame_certified.specs.Low.{IsLowJournal}
 use Rattle.ame_certified.specs.RoundTrip.{IsRoundTrip}
 use Rattle.ame_certified.specs.WeakTries.{IsTallNote}
 use Rattle.ame_certified.proofs.JudgedLemmas.{judged-valid, none-low}
@@ -50,7 +50,7 @@ module _ (signature : Signature) (program : Tree) (labels : List Label) (w : Wea
         let all = with-low first.0 program 0 tries labels [] (begun_at program) outset (weak_start program) w first.1 (all-good program labels tries tried low) run within in
         (first.0, all.0, all.1)
 
-    pub tries-low : StaysLow program (straight_with 0 tries outset labels)
+    pub tries-low : IsLowJournal program (straight_with 0 tries outset labels)
     tries-low = so.2.low
 
     module _ (judged : Judged) (idle : w.state.active ≡ None) where
@@ -67,14 +67,14 @@ module _ (signature : Signature) (program : Tree) (labels : List Label) (w : Wea
       noted-so : IsLowSo so.0 program (straight_with 0 tries outset labels ++ entry ∷ []) so.1 (past_all outset labels) w
       noted-so = tall-noted so.0 program (straight_with 0 tries outset labels) so.1 (past_all outset labels) w so.2 idle entry note
 
-      pub noted-low : StaysLow program (straight_with 0 tries outset labels ++ entry ∷ [])
+      pub noted-low : IsLowJournal program (straight_with 0 tries outset labels ++ entry ∷ [])
       noted-low = noted-so.low
 
       pub noted-valid : (judged : Judged) → Judges program (straight_with 0 tries outset labels ++ entry ∷ []) judged → IsRoundTrip w.state.output judged
       noted-valid judged is = valid judged idle (straight_with 0 tries outset labels ++ entry ∷ []) noted-so is
 
-  pub labels-low : StaysLow program (straight labels)
-  labels-low = subst (StaysLow program) (straight-alone 0 outset labels) (tries-low [] tt tt)
+  pub labels-low : IsLowJournal program (straight labels)
+  labels-low = subst (IsLowJournal program) (straight-alone 0 outset labels) (tries-low [] tt tt)
 
   pub labels-valid : (judged : Judged) → w.state.active ≡ None → Judges program (straight labels) judged → IsRoundTrip w.state.output judged
   labels-valid judged idle is = tries-valid [] tt tt judged idle (subst (λ (es : List Entry). Judges program es judged) (sym (straight-alone 0 outset labels)) is)

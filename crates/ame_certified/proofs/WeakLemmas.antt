@@ -32,7 +32,7 @@ use Rattle.ame_weak.proofs.HeldSteps.{if-gave, map-gave}
 use Rattle.ame_weak.proofs.FreeSteps.{IsBelow, free-below, close-below}
 use Rattle.ame_weak.proofs.WayLemmas.{IsUnderWay, number-below}
 use Rattle.ame_weak.proofs.Follow.{IsFollowed, follow-label}
-use Rattle.ame_certified.specs.Low.{StaysLow}
+use Rattle.ame_certified.specs.Low.{IsLowJournal}
 use Rattle.ame_certified.proofs.JudgedLemmas.{one-low}
 use Rattle.ame_certified.proofs.WayLemmas.{WayIsLow, way-none, way-of, low-of, low-more, within-low}
 use Rattle.ame_certified.proofs.FreedLemmas.{freed-low, closed-calm}
@@ -87,7 +87,7 @@ module _ (signature : Signature) (s : State) (i n : ℕ) (fresh : List ℕ) (w :
 pub record IsLowSo (signature : Signature) (program : Tree) (journal : List Entry) (r : Replayed) (p : Place) (w : Weak) : Type 0 where
   pub follows : IsFollowed signature r p w
   pub replayed : replay program journal ≡ Some r
-  pub low : StaysLow program journal
+  pub low : IsLowJournal program journal
   pub way : IsUnderWay signature r.state p.number p.steps p.fresh w → WayIsLow r.state p.number p.steps p.fresh
 
 -- nothing is active, and so no fragment is under way
@@ -104,7 +104,7 @@ module _ (signature : Signature) (program : Tree) (journal : List Entry) (r : Re
   abbrev Next : Label → Type 0
   Next label = (behind : Replayed) × IsLowSo signature program (journal ++ entries_of_label p label) behind (past p label) v
 
-  next : (label : Label) → weak_after w label ≡ Some v → StaysLow program (journal ++ entries_of_label p label)
+  next : (label : Label) → weak_after w label ≡ Some v → IsLowJournal program (journal ++ entries_of_label p label)
       → ((behind : Replayed) → replay_from r (entries_of_label p label) ≡ Some behind → IsUnderWay signature behind.state (past p label).number (past p label).steps (past p label).fresh v
       → WayIsLow behind.state (past p label).number (past p label).steps (past p label).fresh) → Next label
   next label e low way =
@@ -120,8 +120,8 @@ module _ (signature : Signature) (program : Tree) (journal : List Entry) (r : Re
         },
       )
 
-  no-more : StaysLow program (journal ++ [])
-  no-more = subst (StaysLow program) (sym (append-nil journal)) h.low
+  no-more : IsLowJournal program (journal ++ [])
+  no-more = subst (IsLowJournal program) (sym (append-nil journal)) h.low
 
   -- the state stays if no entry is added
   still : (behind : Replayed) → replay_from r [] ≡ Some behind → r.state ≡ behind.state
@@ -144,7 +144,7 @@ module _ (signature : Signature) (program : Tree) (journal : List Entry) (r : Re
         (ap (λ (side : Side). attempt_on side p.number m.made m.used r.state) (sym on) ∙ m.leads)
         (ap (λ (side : Side). is_tall side p.number m.there) (sym on) ∙ m.tall)
 
-    ran-low : StaysLow program (journal ++ ran p.number p.steps p.fresh ∷ [])
+    ran-low : IsLowJournal program (journal ++ ran p.number p.steps p.fresh ∷ [])
     ran-low = one-low program journal (ran p.number p.steps p.fresh) r h.replayed h.low ran-met
 
     left-low : weak_after w Label.Leave ≡ Some v → Next Label.Leave
@@ -165,7 +165,7 @@ module _ (signature : Signature) (program : Tree) (journal : List Entry) (r : Re
 
   -- the entries of a member that stands under `unprotected`, and is at no such form
   entries-low : (j : ℕ) (fresh : List ℕ) (answer : Option ℤ) → is_at_unprotected j r.state ≡ true → (is_tall Side.Unprotected j r.state ≡ true → ⊥) → (behind : Replayed)
-      → replay_from r (arrival p.inside j ++ freed j fresh answer ∷ []) ≡ Some behind → StaysLow program (journal ++ (arrival p.inside j ++ freed j fresh answer ∷ []))
+      → replay_from r (arrival p.inside j ++ freed j fresh answer ∷ []) ≡ Some behind → IsLowJournal program (journal ++ (arrival p.inside j ++ freed j fresh answer ∷ []))
   entries-low j fresh answer stands calm behind leads =
       freed-low program journal r h.replayed h.low j fresh answer stands calm (list_any (λ k. k == j) p.inside) behind leads
 

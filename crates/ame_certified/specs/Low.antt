@@ -5,5 +5,5 @@ use Rattle.ame_journal.specs.declared.entry.Entry.{Entry}
 use Rattle.ame_check.specs.Judge.{PassesTallAt}
 
 -- no entry passes one
-abbrev pub StaysLow : Tree → List Entry → Type 0
-StaysLow program entries = (n : ℕ) → PassesTallAt program entries n → ⊥
+abbrev pub IsLowJournal : Tree → List Entry → Type 0
+IsLowJournal program entries = (n : ℕ) → PassesTallAt program entries n → ⊥

@@ -11,7 +11,7 @@ ghost use Rattle.ame_check.specs.declared.judging.Judged.{Judged};
 ghost use Rattle.ame_protocol.specs.declared.types.Limits.{Limits};
 ghost use Rattle.ame_engine.specs.Ending.{End};
 ghost use Rattle.ame_shell.specs.Ran.{IsRanBy};
-ghost use Rattle.ame_certified.specs.Low.{StaysLow};
+ghost use Rattle.ame_certified.specs.Low.{IsLowJournal};
 ghost use Rattle.ame_certified.specs.RoundTrip.{IsRoundTrip};
 
 use ame_machine::Runner;
@@ -21,13 +21,13 @@ use ame_machine::Runner;
 pub fn ended_runs_are_judged_valid<M: Runner>()
     ensures low { (program : Tree) (signature : Signature) (limits : Limits) (base : List Entry) (value : M.Value → Val) (end : End M.Value)
         → IsRanBy program signature limits base value end → IsAccepted signature program → 1 ≤ limits.slice → All (λ entry. is_note entry.kind ≡ false) base
-        → StaysLow program base → StaysLow program (base ++ end.entries) }
+        → IsLowJournal program base → IsLowJournal program (base ++ end.entries) }
     ensures judged { (program : Tree) (signature : Signature) (limits : Limits) (base : List Entry) (value : M.Value → Val) (end : End M.Value) (judged : Judged)
         → IsRanBy program signature limits base value end → IsAccepted signature program → 1 ≤ limits.slice → All (λ entry. is_note entry.kind ≡ false) base
-        → StaysLow program base → Judges program (base ++ end.entries) judged → IsRoundTrip end.output judged }
+        → IsLowJournal program base → Judges program (base ++ end.entries) judged → IsRoundTrip end.output judged }
 {}
 
 /// Says that the entries without notes of a journal that `judge` finds valid pass no tall form.
 pub fn bases_stay_low()
-    ensures { (program : Tree) (entries : List Entry) (output : List ℤ) → LeadsTo program entries output → StaysLow program (without_notes entries) }
+    ensures { (program : Tree) (entries : List Entry) (output : List ℤ) → LeadsTo program entries output → IsLowJournal program (without_notes entries) }
 {}

@@ -7,13 +7,13 @@ ghost use Rattle.ame_journal.specs.Replayed.{Replayed};
 ghost use Rattle.ame_journal.specs.Replay.{replay};
 ghost use Rattle.ame_check.specs.Judge.{Judges};
 ghost use Rattle.ame_check.specs.declared.judging.Judged.{Judged};
-ghost use Rattle.ame_certified.specs.Low.{StaysLow};
+ghost use Rattle.ame_certified.specs.Low.{IsLowJournal};
 ghost use Rattle.ame_certified.specs.RoundTrip.{IsRoundTrip, IsNeverInvalid};
 
 /// Says that `judge` finds a journal valid with the output of its replay, or too long, if it replays and no entry passes a tall form.
 pub fn journals_are_judged_valid()
     ensures { (program : Tree) (entries : List Entry) (r : Replayed) (judged : Judged) → replay program entries ≡ Some r
-        → StaysLow program entries → Judges program entries judged → IsRoundTrip r.state.output judged }
+        → IsLowJournal program entries → Judges program entries judged → IsRoundTrip r.state.output judged }
 {}
 
 /// Says that `judge` finds no journal invalid that replays.

@@ -11,7 +11,7 @@ ghost use Rattle.ame_protocol.specs.declared.types.Attempt.{Attempt};
 ghost use Rattle.ame_protocol.specs.declared.types.Task.{Task};
 ghost use Rattle.ame_protocol.specs.Engine.Parts.{task_at, term_at};
 ghost use Rattle.ame_protocol.specs.Engine.Simulates.{Simulates};
-ghost use Rattle.ame_protocol.specs.Event.State.{State};
+ghost use Rattle.ame_protocol.specs.Event.EngineState.{EngineState};
 ghost use Rattle.ame_shell.specs.Low.{MachineGoesLow, WorkGoesLow};
 
 /// Says that a machine on a run makes no step at a tall form: not as it advances, nor by the step that it makes if it needs
@@ -29,11 +29,11 @@ pub fn machines_stay_low()
 /// Says that the events of a seat are low if the run of its machine is: protected code in the machine's steps, and unprotected code in
 /// these and in one step more.
 pub fn machines_make_low_events()
-    ensures running { (s : State) (seat : ℕ) (attempt : Attempt) (m : MachineView) → task_at s.parts.tasks seat ≡ Task.Running attempt → m.inside ≡ false
+    ensures running { (s : EngineState) (seat : ℕ) (attempt : Attempt) (m : MachineView) → task_at s.parts.tasks seat ≡ Task.Running attempt → m.inside ≡ false
         → MachineGoesLow s.parts seat attempt m m.steps → WorkGoesLow s.parts seat (task_at s.parts.tasks seat) m.steps }
-    ensures free { (s : State) (seat : ℕ) (attempt : Attempt) (m : MachineView) → Simulates s.parts → task_at s.parts.tasks seat ≡ Task.Free attempt
+    ensures free { (s : EngineState) (seat : ℕ) (attempt : Attempt) (m : MachineView) → Simulates s.parts → task_at s.parts.tasks seat ≡ Task.Free attempt
         → m.inside ≡ true → MachineGoesLow s.parts seat attempt m m.steps → WorkGoesLow s.parts seat (task_at s.parts.tasks seat) m.steps }
-    ensures visit { (s : State) (seat : ℕ) (attempt : Attempt) (m : MachineView) → Simulates s.parts → task_at s.parts.tasks seat ≡ Task.Free attempt
+    ensures visit { (s : EngineState) (seat : ℕ) (attempt : Attempt) (m : MachineView) → Simulates s.parts → task_at s.parts.tasks seat ≡ Task.Free attempt
         → m.inside ≡ true → OnRun (term_at s.parts.pool attempt.tried.number) (row_at s.parts.memory.rows seat).inputs m
         → MachineGoesLow s.parts seat attempt m m.steps → need_of m ≢ Need.Tall → WorkGoesLow s.parts seat (task_at s.parts.tasks seat) (m.steps + 1) }
 {}

@@ -14,7 +14,7 @@ ghost use Rattle.ame_weak.specs.Straight.{outset, straight};
 ghost use Rattle.ame_weak.specs.Tries.{AreTried, straight_with};
 ghost use Rattle.ame_weak.specs.declared.tries.Try.{Try};
 ghost use Rattle.ame_runner.specs.Within.{AreTriedWithin};
-ghost use Rattle.ame_certified.specs.Low.{StaysLow};
+ghost use Rattle.ame_certified.specs.Low.{IsLowJournal};
 ghost use Rattle.ame_certified.specs.RoundTrip.{IsRoundTrip};
 ghost use Rattle.ame_certified.specs.WeakTries.{IsTallNote};
 
@@ -22,13 +22,13 @@ ghost use Rattle.ame_certified.specs.WeakTries.{IsTallNote};
 /// or the note of a member that grows too tall.
 pub fn weak_journals_stay_low()
     ensures alone { (signature : Signature) (program : Tree) (labels : List Label) (w : Weak) → IsAccepted signature program → IsWeakRun program labels w
-        → AreWithinBounds (weak_start program) labels → StaysLow program (straight labels) }
+        → AreWithinBounds (weak_start program) labels → IsLowJournal program (straight labels) }
     ensures tries { (signature : Signature) (program : Tree) (labels : List Label) (tries : List Try) (w : Weak) → IsAccepted signature program
         → IsWeakRun program labels w → AreWithinBounds (weak_start program) labels → AreTried program labels tries → AreTriedWithin program labels tries
-        → StaysLow program (straight_with 0 tries outset labels) }
+        → IsLowJournal program (straight_with 0 tries outset labels) }
     ensures noted { (signature : Signature) (program : Tree) (labels : List Label) (tries : List Try) (w : Weak) (entry : Entry) → IsAccepted signature program
         → IsWeakRun program labels w → AreWithinBounds (weak_start program) labels → AreTried program labels tries → AreTriedWithin program labels tries
-        → w.state.active ≡ None → IsTallNote w entry → StaysLow program (straight_with 0 tries outset labels ++ entry ∷ []) }
+        → w.state.active ≡ None → IsTallNote w entry → IsLowJournal program (straight_with 0 tries outset labels ++ entry ∷ []) }
 {}
 
 /// Says that `judge` finds such a journal valid with the run's output, or too long, if nothing is active at the run's end.

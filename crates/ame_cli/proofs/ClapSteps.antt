@@ -15,7 +15,7 @@ use Rattle.clap.specs.declared.builder.ValueParser.TheVariants as vp
 use Rattle.ame_cli.specs.declared.item.Item.{Item}
 use Rattle.ame_cli.specs.declared.item.Item.TheVariants.{Workers}
 use Rattle.ame_cli.specs.declared.verb.Verb.{Verb}
-use Rattle.ame_cli.specs.Items.{Word, name_of}
+use Rattle.ame_cli.specs.Items.{ArgWord, name_of}
 use Rattle.ame_cli.specs.Verbs.{all_items, verb_word}
 use Rattle.ame_cli.specs.Syntax.{option_rule, numbers_rule}
 use Rattle.ame_cli.proofs.Machine.{named}
@@ -43,15 +43,15 @@ built_verb verb = record (new_shape (verb_word verb)) {
 -- waits for its value
 pub data Mode : Type 0 where
   clear : Mode
-  valued : Item → Word → Mode
-  numbered : Word → Mode
+  valued : Item → ArgWord → Mode
+  numbered : ArgWord → Mode
   waits : Item → Mode
 
 abbrev pub waiting_in : Mode → Option Item
 waiting_in (waits item) = Some item
 waiting_in _ = None
 
-abbrev pub pending_in : Mode → Option (Word × List Word)
+abbrev pub pending_in : Mode → Option (ArgWord × List ArgWord)
 pending_in clear = None
 pending_in (valued item value) = Some (name_of item, value ∷ [])
 pending_in (numbered word) = Some (codes "numbers", word ∷ [])
@@ -76,7 +76,7 @@ rows_in rows (valued item value) = used (built_option item) (value ∷ []) rows
 rows_in rows (numbered word) = used built_numbers (word ∷ []) rows
 rows_in rows (waits item) = used (built_option item) [] rows
 
-by_long : (items : List Item) (name : Word)
+by_long : (items : List Item) (name : ArgWord)
     → arg_by_long (map built_option items ++ built_numbers ∷ []) name ≡ option_map built_option (find (λ item. bytes_eq (name_of item) name) items)
 by_long [] name = refl
 by_long (item ∷ rest) name = go (by_long rest name) (bytes_eq (name_of item) name)
@@ -94,19 +94,19 @@ rows_settled rows _ = refl
 
 -- ---- what a word is
 
-abbrev pub dashes : Word
+abbrev pub dashes : ArgWord
 dashes = 45 ∷ 45 ∷ []
 
-pub data Class (word : Word) : Type 0 where
-  long : (p : Word × Option Word) → bytes_eq word dashes ≡ false → long_of word ≡ Some p → Class word
+pub data Class (word : ArgWord) : Type 0 where
+  long : (p : ArgWord × Option ArgWord) → bytes_eq word dashes ≡ false → long_of word ≡ Some p → Class word
   plain : bytes_eq word dashes ≡ false → long_of word ≡ None → short_of word ≡ None → Class word
 
-no_sub : (state : Waiting) (word : Word) → subcommand_met [] state word ≡ None
+no_sub : (state : Waiting) (word : ArgWord) → subcommand_met [] state word ≡ None
 no_sub idle word = refl
 no_sub (option id) word = refl
 no_sub positional word = refl
 
-module _ (rows : List Row) (mode : Mode) (word : Word) where
+module _ (rows : List Row) (mode : Mode) (word : ArgWord) where
   abbrev stepped : Held × Step → Walk
   stepped met = after_step built_rules word (walk_in rows mode) met.0 met.1
 
@@ -129,7 +129,7 @@ module _ (rows : List Row) (mode : Mode) (word : Word) where
 
 -- ---- a plain word
 
-abbrev pub plain_mode : Mode → Word → Mode
+abbrev pub plain_mode : Mode → ArgWord → Mode
 plain_mode (waits item) word = valued item word
 plain_mode _ word = numbered word
 
@@ -137,14 +137,14 @@ abbrev pub plain_rows : List Row → Mode → List Row
 plain_rows rows (waits item) = rows
 plain_rows rows mode = rows_in rows mode
 
-plain_met : (rows : List Row) (mode : Mode) (word : Word)
+plain_met : (rows : List Row) (mode : Mode) (word : ArgWord)
     → after_step built_rules word (walk_in rows mode) (plain_word built_rules (state_in mode) word (held_in rows mode)).0 (plain_word built_rules (state_in mode) word (held_in rows mode)).1
     ≡ walk_in (plain_rows rows mode) (plain_mode mode word)
 plain_met rows (valued Workers value) word = refl
 plain_met rows (waits Workers) word = refl
 plain_met rows _ word = refl
 
-pub plain_walked : (rows : List Row) (mode : Mode) (word : Word) → bytes_eq word dashes ≡ false → long_of word ≡ None → short_of word ≡ None
+pub plain_walked : (rows : List Row) (mode : Mode) (word : ArgWord) → bytes_eq word dashes ≡ false → long_of word ≡ None → short_of word ≡ None
     → walked built_rules [] (walk_in rows mode) word ≡ walk_in (plain_rows rows mode) (plain_mode mode word)
 plain_walked rows mode word dash lo sh =
     walked_flag rows mode word dash
@@ -152,13 +152,13 @@ plain_walked rows mode word dash lo sh =
     ∙ ap (λ s. stepped rows mode word (short_or_plain built_rules (state_in mode) word s (held_in rows mode))) sh
     ∙ plain_met rows mode word
 
-plain_step_fault : (verb : Verb) (rows : List Row) (mode : Mode) (word : Word)
+plain_step_fault : (verb : Verb) (rows : List Row) (mode : Mode) (word : ArgWord)
     → step_fault (built_verb verb) 1 (plain_word built_rules (state_in mode) word (held_in rows mode)).0 (plain_word built_rules (state_in mode) word (held_in rows mode)).1 ≡ []
 plain_step_fault verb rows (valued Workers value) word = refl
 plain_step_fault verb rows (waits Workers) word = refl
 plain_step_fault verb rows _ word = refl
 
-pub plain_turn : (verb : Verb) (rows : List Row) (mode : Mode) (word : Word) → bytes_eq word dashes ≡ false → long_of word ≡ None → short_of word ≡ None
+pub plain_turn : (verb : Verb) (rows : List Row) (mode : Mode) (word : ArgWord) → bytes_eq word dashes ≡ false → long_of word ≡ None → short_of word ≡ None
     → turn_fault (built_verb verb) [] (walk_in rows mode) word ≡ []
 plain_turn verb rows mode word dash lo sh =
     turn_flag rows mode word verb dash
@@ -170,15 +170,15 @@ plain_turn verb rows mode word dash lo sh =
 
 -- ---- a long word
 
-abbrev pub long_mode : Item → Option Word → Mode
+abbrev pub long_mode : Item → Option ArgWord → Mode
 long_mode item None = waits item
 long_mode item (Some value) = clear
 
-abbrev pub long_rows : Item → Option Word → List Row → Mode → List Row
+abbrev pub long_rows : Item → Option ArgWord → List Row → Mode → List Row
 long_rows item None rows mode = rows_in rows mode
 long_rows item (Some value) rows mode = used (built_option item) (value ∷ []) (rows_in rows mode)
 
-long_found : (rows : List Row) (mode : Mode) (word : Word) (item : Item) (v : Option Word)
+long_found : (rows : List Row) (mode : Mode) (word : ArgWord) (item : Item) (v : Option ArgWord)
     → after_step built_rules word (walk_in rows mode)
     (after_flag built_rules (state_in mode) word (long_met built_rules (Some (built_option item)) v (held_in rows mode)).0 (long_met built_rules (Some (built_option item)) v (held_in rows mode)).1).0
     (after_flag built_rules (state_in mode) word (long_met built_rules (Some (built_option item)) v (held_in rows mode)).0 (long_met built_rules (Some (built_option item)) v (held_in rows mode)).1).1
@@ -186,7 +186,7 @@ long_found : (rows : List Row) (mode : Mode) (word : Word) (item : Item) (v : Op
 long_found rows mode word item None = ap (λ r. walk_in r (waits item)) (rows_settled rows mode)
 long_found rows mode word item (Some value) = ap (λ r. walk_in (used (built_option item) (value ∷ []) r) clear) (rows_settled rows mode)
 
-pub long_walked : (rows : List Row) (mode : Mode) (word name : Word) (v : Option Word) (item : Item) → bytes_eq word dashes ≡ false → long_of word ≡ Some (name, v) → named name ≡ Some item
+pub long_walked : (rows : List Row) (mode : Mode) (word name : ArgWord) (v : Option ArgWord) (item : Item) → bytes_eq word dashes ≡ false → long_of word ≡ Some (name, v) → named name ≡ Some item
     → walked built_rules [] (walk_in rows mode) word ≡ walk_in (long_rows item v rows mode) (long_mode item v)
 long_walked rows mode word name v item dash lo is =
     walked_flag rows mode word dash
@@ -205,14 +205,14 @@ settle_fault_in rows (waits Workers) = refl
 settle_fault_in rows _ = refl
 
 -- the faults of a long word, by the argument that it names
-abbrev pub long_turn_by : Verb → List Row → Mode → Word → Option Word → Option Rule → Kinds
+abbrev pub long_turn_by : Verb → List Row → Mode → ArgWord → Option ArgWord → Option Rule → Kinds
 long_turn_by verb rows mode word v o =
     or_else (long_fault built_rules false o v (held_in rows mode))
     (step_fault (built_verb verb) 1
     (after_flag built_rules (state_in mode) word (long_met built_rules o v (held_in rows mode)).0 (long_met built_rules o v (held_in rows mode)).1).0
     (after_flag built_rules (state_in mode) word (long_met built_rules o v (held_in rows mode)).0 (long_met built_rules o v (held_in rows mode)).1).1)
 
-long_turn_is : (verb : Verb) (rows : List Row) (mode : Mode) (word name : Word) (v : Option Word) → bytes_eq word dashes ≡ false → long_of word ≡ Some (name, v)
+long_turn_is : (verb : Verb) (rows : List Row) (mode : Mode) (word name : ArgWord) (v : Option ArgWord) → bytes_eq word dashes ≡ false → long_of word ≡ Some (name, v)
     → turn_fault (built_verb verb) [] (walk_in rows mode) word ≡ long_turn_by verb rows mode word v (option_map built_option (named name))
 long_turn_is verb rows mode word name v dash lo =
     turn_flag rows mode word verb dash
@@ -224,18 +224,18 @@ pub or_else-nil : (a : Kinds) → or_else a [] ≡ a
 or_else-nil [] = refl
 or_else-nil (k ∷ ks) = refl
 
-long_turn_found : (verb : Verb) (rows : List Row) (mode : Mode) (word : Word) (v : Option Word) (item : Item)
+long_turn_found : (verb : Verb) (rows : List Row) (mode : Mode) (word : ArgWord) (v : Option ArgWord) (item : Item)
     → long_turn_by verb rows mode word v (Some (built_option item)) ≡ waiting_fault (waiting_in mode)
 long_turn_found verb rows mode word None item = or_else-nil (settle_fault built_rules false (held_in rows mode)) ∙ settle_fault_in rows mode
 long_turn_found verb rows mode word (Some value) item =
     or_else-nil (or_else (settle_fault built_rules false (held_in rows mode)) []) ∙ or_else-nil (settle_fault built_rules false (held_in rows mode)) ∙ settle_fault_in rows mode
 
-pub long_turn : (verb : Verb) (rows : List Row) (mode : Mode) (word name : Word) (v : Option Word) (item : Item) → bytes_eq word dashes ≡ false → long_of word ≡ Some (name, v) → named name ≡ Some item
+pub long_turn : (verb : Verb) (rows : List Row) (mode : Mode) (word name : ArgWord) (v : Option ArgWord) (item : Item) → bytes_eq word dashes ≡ false → long_of word ≡ Some (name, v) → named name ≡ Some item
     → turn_fault (built_verb verb) [] (walk_in rows mode) word ≡ waiting_fault (waiting_in mode)
 long_turn verb rows mode word name v item dash lo is =
     long_turn_is verb rows mode word name v dash lo ∙ ap (λ n. long_turn_by verb rows mode word v (option_map built_option n)) is ∙ long_turn_found verb rows mode word v item
 
-pub unknown_turn : (verb : Verb) (rows : List Row) (mode : Mode) (word name : Word) (v : Option Word) → bytes_eq word dashes ≡ false → long_of word ≡ Some (name, v) → named name ≡ None
+pub unknown_turn : (verb : Verb) (rows : List Row) (mode : Mode) (word name : ArgWord) (v : Option ArgWord) → bytes_eq word dashes ≡ false → long_of word ≡ Some (name, v) → named name ≡ None
     → turn_fault (built_verb verb) [] (walk_in rows mode) word ≡ UnknownArgument ∷ []
 unknown_turn verb rows mode word name v dash lo is =
     long_turn_is verb rows mode word name v dash lo ∙ ap (λ n. long_turn_by verb rows mode word v (option_map built_option n)) is

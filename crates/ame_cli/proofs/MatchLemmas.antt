@@ -11,16 +11,16 @@ use Rattle.clap.specs.declared.ArgMatches.{ArgMatches}
 use Rattle.clap.specs.declared.parser.matches.SubCommand.{SubCommand}
 use Rattle.clap.specs.declared.parser.matches.ArgMatches.TheViews.{out-ArgMatches, out-SubCommand}
 use Rattle.ame_cli.specs.Limits.{word_limit}
-use Rattle.ame_cli.specs.Items.{Word}
+use Rattle.ame_cli.specs.Items.{ArgWord}
 use Rattle.ame_cli.specs.Screen.{may_stand, may_be_read}
 
 -- the subcommand's name and rows, one by one and together
-pub subcommand_is : (m : ArgMatches) (name : Word) (rows : List Row) → Some name ≡ subcommand_name_of m
-    → Some rows ≡ option_map (λ (p : Word × List Row). p.1) (subcommand_rows_of m) → subcommand_rows_of m ≡ Some (name, rows)
+pub subcommand_is : (m : ArgMatches) (name : ArgWord) (rows : List Row) → Some name ≡ subcommand_name_of m
+    → Some rows ≡ option_map (λ (p : ArgWord × List Row). p.1) (subcommand_rows_of m) → subcommand_rows_of m ≡ Some (name, rows)
 subcommand_is m name rows e f = go (out-ArgMatches m).subcommand e f
   where
     go : {Z : Type 0} (o : Option (Box SubCommand Z)) → Some name ≡ option_map (λ b. (out-SubCommand (box_value b)).name.now) o
-        → Some rows ≡ option_map (λ (p : Word × List Row). p.1) (subcommand_rows o) → subcommand_rows o ≡ Some (name, rows)
+        → Some rows ≡ option_map (λ (p : ArgWord × List Row). p.1) (subcommand_rows o) → subcommand_rows o ≡ Some (name, rows)
     go None p q = cc
     go (Some b) p q = cc
 
@@ -31,21 +31,21 @@ kind_faults [] e (inr among) differs = λ none. among
 kind_faults (k ∷ rest) e has differs = λ none. cc
 
 -- a list of texts that is screened, by any view of its words
-all_stand-map : {A : Type 0} (f : A → Word) (words : List A) → list_all (λ word. may_stand (f word)) words ≡ list_all may_stand (map f words)
+all_stand-map : {A : Type 0} (f : A → ArgWord) (words : List A) → list_all (λ word. may_stand (f word)) words ≡ list_all may_stand (map f words)
 all_stand-map f [] = refl
 all_stand-map f (word ∷ rest) = ap (λ b. may_stand (f word) && b) (all_stand-map f rest)
 
-pub screened : {A : Type 0} (f : A → Word) (words : List A) → length words ≤ word_limit → list_all (λ word. may_stand (f word)) words ≡ may_be_read (map f words)
+pub screened : {A : Type 0} (f : A → ArgWord) (words : List A) → length words ≤ word_limit → list_all (λ word. may_stand (f word)) words ≡ may_be_read (map f words)
 screened f words short =
     all_stand-map f words ∙ sym (ap (λ b. b && list_all may_stand (map f words)) (le-leb (length (map f words)) word_limit (omega (arith, length-map words f))))
 
 -- a list without words, by any view of them
-pub is_nothing : {A : Type 0} (f : A → Word) (words : List A) → (length words == 0) ≡ true → map f words ≡ []
+pub is_nothing : {A : Type 0} (f : A → ArgWord) (words : List A) → (length words == 0) ≡ true → map f words ≡ []
 is_nothing f [] e = refl
 is_nothing f (word ∷ rest) e =
     let none : length (word ∷ rest) ≡ 0 = eqb-true (length (word ∷ rest)) 0 e in
     absurd (omega arith)
 
-pub is_something : {A : Type 0} (f : A → Word) (words : List A) → (length words == 0) ≡ false → map f words ≢ []
+pub is_something : {A : Type 0} (f : A → ArgWord) (words : List A) → (length words == 0) ≡ false → map f words ≢ []
 is_something f [] e = λ same. true≢false e
 is_something f (word ∷ rest) e = λ same. cc

@@ -8,10 +8,10 @@ use Rattle.std.specs.Str.Parse.{IsNumeral, digits_value, without_leading_plus}
 use Rattle.std.proofs.lemmas.Fmt.{decimal_is_IsNumeral, length-decimal-le}
 use Rattle.std.proofs.lemmas.Str.Parse.{IsNumeralModel, numerals_by_fold, tells_all_ascii_digits, without_leading_plus_none}
 use Rattle.ame_cli.specs.declared.bounds.Bounds.{Bounds}
-use Rattle.ame_cli.specs.Items.{Word}
+use Rattle.ame_cli.specs.Items.{ArgWord}
 use Rattle.ame_cli.specs.Numbers.{is_number, number_within}
 
-same_digits : (ds : Word) → list_all is_ascii_digit ds ≡ all_ascii_digits ds
+same_digits : (ds : ArgWord) → list_all is_ascii_digit ds ≡ all_ascii_digits ds
 same_digits [] = refl
 same_digits (d ∷ ds) = ap (λ b. is_ascii_digit d && b) (same_digits ds)
 
@@ -29,7 +29,7 @@ first_digit : (c : ℕ) → is_ascii_digit c ≡ true → c ≢ 43
 first_digit c digit e = true≢false (sym digit ∙ ap is_ascii_digit e)
 
 -- a number word is a numeral for std, without a plus in front
-numeral : (word : Word) → is_number word ≡ true → IsNumeral 10 (without_leading_plus word) × (without_leading_plus word ≡ word)
+numeral : (word : ArgWord) → is_number word ≡ true → IsNumeral 10 (without_leading_plus word) × (without_leading_plus word ≡ word)
 numeral [] e = absurd (true≢false (sym e))
 numeral (c ∷ rest) e =
     let digits : list_all is_ascii_digit (c ∷ rest) ≡ true = (both_true (nat_le (length (c ∷ rest)) 10) _ (both_true _ _ e).1).1 in
@@ -38,7 +38,7 @@ numeral (c ∷ rest) e =
     (subst (IsNumeral 10) (sym plain) (some, own.to (c ∷ rest) (sym (same_digits (c ∷ rest)) ∙ digits)), plain)
 
 -- what std doesn't read as 32 bits isn't in bounds
-pub none_within : (word : Word) (bounds : Bounds) → is_number word ≡ true → bounds.most < 2 ^ 32
+pub none_within : (word : ArgWord) (bounds : Bounds) → is_number word ≡ true → bounds.most < 2 ^ 32
     → ((IsNumeral 10 (without_leading_plus word) × (digits_value 10 (without_leading_plus word) < 2 ^ 32)) → ⊥) → None ≡ number_within bounds word
 none_within word bounds digits small none = go (is_number word && (nat_le bounds.least (digits_value 10 word) && nat_le (digits_value 10 word) bounds.most)) refl
   where
@@ -46,7 +46,7 @@ none_within word bounds digits small none = go (is_number word && (nat_le bounds
     go true e =
         let within : digits_value 10 word ≤ bounds.most = leb-true _ _ (both_true (nat_le bounds.least (digits_value 10 word)) _ (both_true (is_number word) _ e).1).1 in
         let is = numeral word digits in
-        let below : digits_value 10 (without_leading_plus word) < 2 ^ 32 = subst (λ (t : Word). digits_value 10 t < 2 ^ 32) (sym is.1) (omega arith) in
+        let below : digits_value 10 (without_leading_plus word) < 2 ^ 32 = subst (λ (t : ArgWord). digits_value 10 t < 2 ^ 32) (sym is.1) (omega arith) in
         absurd (none (is.0, below))
     go false e = refl
 

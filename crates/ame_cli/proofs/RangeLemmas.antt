@@ -11,10 +11,10 @@ use Rattle.ame_cli.specs.declared.verb.Verb.TheVariants as verb
 use Rattle.ame_cli.specs.declared.command.Options.{Options}
 use Rattle.ame_cli.specs.declared.command.Command.{Command}
 use Rattle.ame_cli.specs.declared.command.Command.TheVariants.{Run, Bench, Sim, Replay, Check, Resume, Weak}
-use Rattle.ame_cli.specs.Grammar.{Part, SpellsCommand, given}
+use Rattle.ame_cli.specs.Grammar.{Argument, SpellsCommand, given}
 use Rattle.ame_cli.specs.Grammar.Part.{apart, number}
 use Rattle.ame_cli.specs.Grammar.SpellsCommand.{verb_first}
-use Rattle.ame_cli.specs.Items.{Word, bounds_of}
+use Rattle.ame_cli.specs.Items.{ArgWord, bounds_of}
 use Rattle.ame_cli.specs.Numbers.{number_within, numbers_within}
 use Rattle.ame_cli.specs.Ranges.{IsInBounds, AreInRange, IsInRange}
 use Rattle.ame_cli.specs.Settings.{setting, options_spelled}
@@ -38,7 +38,7 @@ decimal_set Turns n within = decimal_within (bounds_of Turns) n (omega arith) wi
 decimal_set Slice n within = decimal_within (bounds_of Slice) n (omega arith) within
 
 -- each option as two words
-abbrev all_parts : Options → List Part
+abbrev all_parts : Options → List Argument
 all_parts options = apart Workers (decimal options.workers) ∷ apart Turns (decimal options.turns) ∷ apart Slice (decimal options.slice) ∷ []
 
 chosen : (a b c : Option ℕ) (options : Options) → a ≡ Some options.workers → b ≡ Some options.turns → c ≡ Some options.slice
@@ -48,7 +48,7 @@ chosen a b c options p q r =
     ∙ ap (λ (o : Option ℕ). option_and_then (λ turns. option_map (λ slice. record { workers = options.workers; turns = turns; slice = slice }) c) o) q
     ∙ ap (λ (o : Option ℕ). option_map (λ slice. record { workers = options.workers; turns = options.turns; slice = slice }) o) r
 
-options_chosen : (options : Options) → AreInRange options → (values : Item → List Word) → values Workers ≡ decimal options.workers ∷ []
+options_chosen : (options : Options) → AreInRange options → (values : Item → List ArgWord) → values Workers ≡ decimal options.workers ∷ []
     → values Turns ≡ decimal options.turns ∷ [] → values Slice ≡ decimal options.slice ∷ [] → options_spelled all_items values ≡ Some options
 options_chosen options within values w t s =
     chosen _ _ _ options (ap (setting all_items Workers) w ∙ decimal_set Workers options.workers within.workers)
@@ -75,7 +75,7 @@ turns_chosen : (turns : ℕ) → IsInBounds (bounds_of Turns) turns
     → options_spelled (Turns ∷ []) (given (apart Turns (decimal turns) ∷ [])) ≡ Some (record { workers = 1; turns = turns; slice = 1000 })
 turns_chosen turns within = chosen _ _ _ (record { workers = 1; turns = turns; slice = 1000 }) refl (decimal_within (bounds_of Turns) turns (omega arith) within) refl
 
-pub ranged_is_spelled : (command : Command) → IsInRange command → (words : List Word) × SpellsCommand words command
+pub ranged_is_spelled : (command : Command) → IsInRange command → (words : List ArgWord) × SpellsCommand words command
 ranged_is_spelled (Run options) within =
     (_, verb_first verb.Run (all_parts options) (Run options) (made verb.Run _ _ options [] (options_chosen options within (given (all_parts options)) refl refl refl) refl))
 ranged_is_spelled (Bench seed size options) within =

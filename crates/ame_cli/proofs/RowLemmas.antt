@@ -7,14 +7,14 @@ use Rattle.std.proofs.lemmas.Slice.Eq.{bytes_eq-Decides}
 use Rattle.clap.specs.Walk.{Row, Rule, more_values, with_values, with_default, has_row, stronger, default_rows, reading_by}
 use Rattle.clap.specs.declared.builder.value_parser.Reading.{Reading}
 use Rattle.clap.specs.declared.parser.matches.ValueSource.{ValueSource}
-use Rattle.ame_cli.specs.Items.{Word}
+use Rattle.ame_cli.specs.Items.{ArgWord}
 use Rattle.ame_cli.specs.Rows.{values_in}
 
-pub same_text : (a b : Word) → bytes_eq a b ≡ true → a ≡ b
+pub same_text : (a b : ArgWord) → bytes_eq a b ≡ true → a ≡ b
 same_text a b e = (bytes_eq-Decides a b).0 e
 
 -- what is found by its name has that name
-pub named_same : {A : Type 0} (name_in : A → Word) (xs : List A) (name : Word) (x : A) → find (λ a. bytes_eq (name_in a) name) xs ≡ Some x → name ≡ name_in x
+pub named_same : {A : Type 0} (name_in : A → ArgWord) (xs : List A) (name : ArgWord) (x : A) → find (λ a. bytes_eq (name_in a) name) xs ≡ Some x → name ≡ name_in x
 named_same name_in [] name x e = cc
 named_same name_in (a ∷ rest) name x e = go (named_same name_in rest name x) (bytes_eq (name_in a) name) refl e
   where
@@ -23,7 +23,7 @@ named_same name_in (a ∷ rest) name x e = go (named_same name_in rest name x) (
     go more true p f = let same : a ≡ x = cc f in sym (same_text (name_in a) name p) ∙ ap name_in same
     go more false p f = more f
 
-values_in-cons : (name : Word) (r : Row) (rows : List Row) → values_in name (r ∷ rows) ≡ cond (bytes_eq r.id name) r.values (values_in name rows)
+values_in-cons : (name : ArgWord) (r : Row) (rows : List Row) → values_in name (r ∷ rows) ≡ cond (bytes_eq r.id name) r.values (values_in name rows)
 values_in-cons name r rows = go (bytes_eq r.id name)
   where
     go : (b : Bool) → unwrap_or (option_map (λ (x : Row). x.values) (cond b (Some r) (find (λ x. bytes_eq x.id name) rows))) [] ≡ cond b r.values (values_in name rows)
@@ -31,21 +31,21 @@ values_in-cons name r rows = go (bytes_eq r.id name)
     go false = refl
 
 -- the answers of a row that has the id, and of one that hasn't
-same_answer : (p q : Bool) (a old values : List Word) → p ≡ q → cond p (a ++ values) old ≡ cond q (cond p a old ++ values) (cond p a old)
+same_answer : (p q : Bool) (a old values : List ArgWord) → p ≡ q → cond p (a ++ values) old ≡ cond q (cond p a old ++ values) (cond p a old)
 same_answer true q a old values e = subst (λ b. a ++ values ≡ cond b (a ++ values) a) e refl
 same_answer false q a old values e = subst (λ b. old ≡ cond b (old ++ values) old) e refl
 
-other_answer : (p q : Bool) (a old values : List Word) → (p ≡ true → q ≡ false) → cond p a (cond q (old ++ values) old) ≡ cond q (cond p a old ++ values) (cond p a old)
+other_answer : (p q : Bool) (a old values : List ArgWord) → (p ≡ true → q ≡ false) → cond p a (cond q (old ++ values) old) ≡ cond q (cond p a old ++ values) (cond p a old)
 other_answer true true a old values differs = absurd (true≢false (differs refl))
 other_answer true false a old values differs = refl
 other_answer false q a old values differs = refl
 
-not_both : (b : Bool) (x id name : Word) → bytes_eq id name ≡ b → bytes_eq x id ≡ false → bytes_eq x name ≡ true → b ≡ false
+not_both : (b : Bool) (x id name : ArgWord) → bytes_eq id name ≡ b → bytes_eq x id ≡ false → bytes_eq x name ≡ true → b ≡ false
 not_both true x id name e differs same = absurd (true≢false (sym same ∙ ap (bytes_eq x) (sym (same_text id name e)) ∙ differs))
 not_both false x id name e differs same = refl
 
 -- what is added under an id is added to the values of that name alone
-pub values_in-with_values : (name id : Word) (how : Reading) (source : ValueSource) (values : List Word) (rows : List Row)
+pub values_in-with_values : (name id : ArgWord) (how : Reading) (source : ValueSource) (values : List ArgWord) (rows : List Row)
     → values_in name (with_values id how source values rows) ≡ cond (bytes_eq id name) (values_in name rows ++ values) (values_in name rows)
 values_in-with_values name id how source values [] =
     values_in-cons name (record { id = id; values = values; count = None; source = Some source; reading = how }) []

@@ -15,12 +15,12 @@ use Rattle.ame_cli.specs.declared.command.Options.{Options}
 use Rattle.ame_cli.specs.declared.command.Command.{Command}
 use Rattle.ame_cli.specs.declared.command.Command.TheVariants.{Run}
 use Rattle.ame_cli.specs.Limits.{word_limit}
-use Rattle.ame_cli.specs.Items.{Word, name_of, bounds_of, default_of, is_same}
+use Rattle.ame_cli.specs.Items.{ArgWord, name_of, bounds_of, default_of, is_same}
 use Rattle.ame_cli.specs.Verbs.{verbs, verb_form, verb_word, verb_named, command_with}
 use Rattle.ame_cli.specs.Numbers.{is_number, number_within, numbers_within}
 use Rattle.ame_cli.specs.Settings.{setting, options_spelled, command_of}
 use Rattle.ame_cli.specs.Screen.{may_stand, may_be_read}
-use Rattle.ame_cli.specs.Grammar.{Part, apart, joined, number, part_words, given, numbers, defaults, SpellsCommand, no_words, verb_first, SpellsNothing}
+use Rattle.ame_cli.specs.Grammar.{Argument, apart, joined, number, part_words, given, numbers, defaults, SpellsCommand, no_words, verb_first, SpellsNothing}
 use Rattle.ame_cli.specs.Ranges.{IsInBounds, AreInRange, IsInRange}
 use Rattle.ame_cli.specs.Syntax.{syntax}
 use Rattle.ame_cli.specs.Rows.{values_in, named_in}
@@ -34,15 +34,15 @@ use Rattle.ame_cli.proofs.GrammarLemmas.{Numbers, parts_are_read, read_words_are
 
 -- ---- reading a whole list
 
-abbrev pub from_parts : Verb → List Part → Option Command
+abbrev pub from_parts : Verb → List Argument → Option Command
 from_parts verb parts = command_of verb (numbers parts) (given parts)
 
-abbrev pub from_verb : Option Verb → List Word → Option Command
+abbrev pub from_verb : Option Verb → List ArgWord → Option Command
 from_verb None rest = None
 from_verb (Some verb) rest = option_and_then (from_parts verb) (read None rest)
 
 -- the command that words are read as
-abbrev pub reading : List Word → Option Command
+abbrev pub reading : List ArgWord → Option Command
 reading [] = Some (Run defaults)
 reading (first ∷ rest) = from_verb (verb_named first) rest
 
@@ -59,7 +59,7 @@ came_from f (Some a) b e = (a, refl, e)
 
 -- ---- what is read is spelled
 
-pub read_is_spelled : (words : List Word) (command : Command) → reading words ≡ Some command → SpellsCommand words command
+pub read_is_spelled : (words : List ArgWord) (command : Command) → reading words ≡ Some command → SpellsCommand words command
 read_is_spelled [] command e = let same : Run defaults ≡ command = cc e in subst (SpellsCommand []) same no_words
 read_is_spelled (first ∷ rest) command e = by_verb (verb_named first) refl e
   where
@@ -74,7 +74,7 @@ read_is_spelled (first ∷ rest) command e = by_verb (verb_named first) refl e
 -- ---- what is spelled is read
 
 -- all texts are number words
-abbrev AllNumbers : List Word → Type 0
+abbrev AllNumbers : List ArgWord → Type 0
 AllNumbers [] = Unit {0}
 AllNumbers (word ∷ rest) = (is_number word ≡ true) × AllNumbers rest
 
@@ -82,7 +82,7 @@ mapped_as : {A B : Type 0} (f : A → B) (o : Option A) (b : B) → option_map f
 mapped_as f None b e = cc
 mapped_as f (Some a) b e = (a, refl, cc e)
 
-number_facts : (bounds : Bounds) (n : ℕ) (word : Word) → number_within bounds word ≡ Some n → (is_number word ≡ true) × IsInBounds bounds n
+number_facts : (bounds : Bounds) (n : ℕ) (word : ArgWord) → number_within bounds word ≡ Some n → (is_number word ≡ true) × IsInBounds bounds n
 number_facts bounds n word e = go (is_number word && (nat_le bounds.least (digits_value 10 word) && nat_le (digits_value 10 word) bounds.most)) refl e
   where
     go : (b : Bool) → (is_number word && (nat_le bounds.least (digits_value 10 word) && nat_le (digits_value 10 word) bounds.most)) ≡ b
@@ -104,7 +104,7 @@ in_places-cons [] k n ns each = tt
 in_places-cons (one ∷ more) k n ns each = (each.0, in_places-cons more (suc k) n ns each.1)
 
 -- the words of numbers are number words, as many as there are bounds
-numbers_facts : (bounds : List Bounds) (words : List Word) (ns : List ℕ) → numbers_within bounds words ≡ Some ns
+numbers_facts : (bounds : List Bounds) (words : List ArgWord) (ns : List ℕ) → numbers_within bounds words ≡ Some ns
     → AllNumbers words × (length words ≡ length bounds) × InPlaces bounds 0 ns
 numbers_facts [] [] ns e = (tt, refl, tt)
 numbers_facts [] (word ∷ rest) ns e = cc
@@ -121,11 +121,11 @@ default_range Workers = (omega arith, omega arith)
 default_range _ = (omega arith, omega arith)
 
 -- an option that is given once may be given
-once : (b : Bool) (bounds : Bounds) (value : Word) (n : ℕ) → cond b (number_within bounds value) None ≡ Some n → number_within bounds value ≡ Some n
+once : (b : Bool) (bounds : Bounds) (value : ArgWord) (n : ℕ) → cond b (number_within bounds value) None ≡ Some n → number_within bounds value ≡ Some n
 once true bounds value n e = e
 once false bounds value n e = cc
 
-setting_facts : (allowed : List Item) (item : Item) (values : List Word) (n : ℕ) → setting allowed item values ≡ Some n
+setting_facts : (allowed : List Item) (item : Item) (values : List ArgWord) (n : ℕ) → setting allowed item values ≡ Some n
     → AllNumbers values × (length values ≤ 1) × IsInBounds (bounds_of item) n
 setting_facts allowed item [] n e = let same : default_of item ≡ n = cc e in (tt, omega arith, subst (IsInBounds (bounds_of item)) same (default_range item))
 setting_facts allowed item (value ∷ []) n e =
@@ -142,7 +142,7 @@ option_in options Turns = options.turns
 option_in options Slice = options.slice
 
 -- each option has its setting
-options_are : (allowed : List Item) (values : Item → List Word) (options : Options) → options_spelled allowed values ≡ Some options
+options_are : (allowed : List Item) (values : Item → List ArgWord) (options : Options) → options_spelled allowed values ≡ Some options
     → (item : Item) → setting allowed item (values item) ≡ Some (option_in options item)
 options_are allowed values options e item =
     let w = came_from (λ workers. option_and_then (λ turns. option_map (λ slice. options_with workers turns slice) (setting allowed Slice (values Slice))) (setting allowed Turns (values Turns))) (setting allowed Workers (values Workers)) options e in
@@ -161,7 +161,7 @@ command_range verb.Run ns options each range = assumption
 command_range _ ns options each range = assumption
 
 -- what holds of the words that a command is made of, and of the command
-command_facts : (named : Verb) (words : List Word) (values : Item → List Word) (command : Command) → command_of named words values ≡ Some command
+command_facts : (named : Verb) (words : List ArgWord) (values : Item → List ArgWord) (command : Command) → command_of named words values ≡ Some command
     → ((item : Item) → AllNumbers (values item) × (length (values item) ≤ 1)) × AllNumbers words × (length words ≡ length (verb_form named).numbers) × IsInRange command
 command_facts named words values command e =
     let o = came_from (λ options. option_map (λ ns. command_with named ns options) (numbers_within (verb_form named).numbers words)) (options_spelled (verb_form named).items values) command e in
@@ -171,15 +171,15 @@ command_facts named words values command e =
     let range : AreInRange o.0 = record { workers = (each Workers).2; turns = (each Turns).2; slice = (each Slice).2 } in
     (λ item. ((each item).0, (each item).1), are.0, are.1, subst IsInRange n.2 (command_range named n.0 o.0 are.2 range))
 
-option_rest : (b : Bool) (value : Word) (rest : List Word) → AllNumbers (cond b (value ∷ []) [] ++ rest) → AllNumbers rest
+option_rest : (b : Bool) (value : ArgWord) (rest : List ArgWord) → AllNumbers (cond b (value ∷ []) [] ++ rest) → AllNumbers rest
 option_rest true value rest each = each.1
 option_rest false value rest each = each
 
-option_first : (item : Item) (value : Word) (rest : List Word) → AllNumbers (cond (is_same item item) (value ∷ []) [] ++ rest) → is_number value ≡ true
+option_first : (item : Item) (value : ArgWord) (rest : List ArgWord) → AllNumbers (cond (is_same item item) (value ∷ []) [] ++ rest) → is_number value ≡ true
 option_first Workers value rest each = each.0
 option_first _ value rest each = each.0
 
-parts_numbers : (parts : List Part) → ((item : Item) → AllNumbers (given parts item)) → AllNumbers (numbers parts) → Numbers parts
+parts_numbers : (parts : List Argument) → ((item : Item) → AllNumbers (given parts item)) → AllNumbers (numbers parts) → Numbers parts
 parts_numbers [] each words = tt
 parts_numbers (apart item value ∷ rest) each words =
     (option_first item value (given rest item) (each item), parts_numbers rest (λ other. option_rest (is_same other item) value (given rest other) (each other)) words)
@@ -187,31 +187,31 @@ parts_numbers (joined item value ∷ rest) each words =
     (option_first item value (given rest item) (each item), parts_numbers rest (λ other. option_rest (is_same other item) value (given rest other) (each other)) words)
 parts_numbers (number word ∷ rest) each words = (words.0, parts_numbers rest each words.1)
 
-spelled_numbers : (named : Verb) (parts : List Part) (command : Command) → command_of named (numbers parts) (given parts) ≡ Some command → Numbers parts
+spelled_numbers : (named : Verb) (parts : List Argument) (command : Command) → command_of named (numbers parts) (given parts) ≡ Some command → Numbers parts
 spelled_numbers named parts command e =
     let facts = command_facts named (numbers parts) (given parts) command e in
     parts_numbers parts (λ item. (facts.0 item).0) facts.1
 
-pub spelled_is_read : (words : List Word) (command : Command) → SpellsCommand words command → reading words ≡ Some command
+pub spelled_is_read : (words : List ArgWord) (command : Command) → SpellsCommand words command → reading words ≡ Some command
 spelled_is_read words command no_words = refl
 spelled_is_read words command (verb_first named parts made e) =
     ap (λ v. from_verb v (flat_map part_words parts)) (named_verb named)
     ∙ ap (option_and_then (from_parts named)) (parts_are_read parts (spelled_numbers named parts made e)) ∙ e
 
-pub spelled_once : (words : List Word) (command other : Command) → SpellsCommand words command → SpellsCommand words other → command ≡ other
+pub spelled_once : (words : List ArgWord) (command other : Command) → SpellsCommand words command → SpellsCommand words other → command ≡ other
 spelled_once words command other s t = let same : Some command ≡ Some other = sym (spelled_is_read words command s) ∙ spelled_is_read words other t in cc same
 
 -- ---- what is spelled may be read
 
 -- how many words parts have
-parts_len : (parts : List Part)
+parts_len : (parts : List Argument)
     → length (flat_map part_words parts) ≤ 2 * (length (given parts Workers) + length (given parts Turns) + length (given parts Slice)) + length (numbers parts)
 parts_len [] = omega arith
 parts_len (apart Workers value ∷ rest) = omega (arith, parts_len rest)
 parts_len (joined Workers value ∷ rest) = omega (arith, parts_len rest)
 parts_len (_ ∷ rest) = omega (arith, parts_len rest)
 
-all_stand-append : (xs ys : List Word) → list_all may_stand xs ≡ true → list_all may_stand ys ≡ true → list_all may_stand (xs ++ ys) ≡ true
+all_stand-append : (xs ys : List ArgWord) → list_all may_stand xs ≡ true → list_all may_stand ys ≡ true → list_all may_stand (xs ++ ys) ≡ true
 all_stand-append [] ys p q = q
 all_stand-append (x ∷ xs) ys p q = go (may_stand x) p (λ h. all_stand-append xs ys h q)
   where
@@ -219,13 +219,13 @@ all_stand-append (x ∷ xs) ys p q = go (may_stand x) p (λ h. all_stand-append 
     go true h more = more h
     go false h more = h
 
-parts_stand : (parts : List Part) → Numbers parts → list_all may_stand (flat_map part_words parts) ≡ true
+parts_stand : (parts : List Argument) → Numbers parts → list_all may_stand (flat_map part_words parts) ≡ true
 parts_stand [] each = refl
 parts_stand (apart item value ∷ rest) each = all_stand-append (part_words (apart item value)) (flat_map part_words rest) (part_stands (apart item value) (each.0, tt)) (parts_stand rest each.1)
 parts_stand (joined item value ∷ rest) each = all_stand-append (part_words (joined item value)) (flat_map part_words rest) (part_stands (joined item value) (each.0, tt)) (parts_stand rest each.1)
 parts_stand (number word ∷ rest) each = all_stand-append (part_words (number word)) (flat_map part_words rest) (part_stands (number word) (each.0, tt)) (parts_stand rest each.1)
 
-pub spelled_may_be_read : (words : List Word) (command : Command) → SpellsCommand words command → may_be_read words ≡ true
+pub spelled_may_be_read : (words : List ArgWord) (command : Command) → SpellsCommand words command → may_be_read words ≡ true
 spelled_may_be_read words command no_words = refl
 spelled_may_be_read words command (verb_first named parts made e) =
     let facts = command_facts named (numbers parts) (given parts) made e in
@@ -243,17 +243,17 @@ spelled_may_be_read words command (verb_first named parts made e) =
 
 -- ---- what clap finds is what is read
 
-found_in : (named : Verb) (rows : List Row) (parts : List Part) → Adds [] rows parts → named_in (verb_word named) rows ≡ from_parts named parts
+found_in : (named : Verb) (rows : List Row) (parts : List Argument) → Adds [] rows parts → named_in (verb_word named) rows ≡ from_parts named parts
 found_in named rows parts adds =
-    let same : ◌≡◌ {A = Item → List Word} (λ item. values_in (name_of item) rows) (given parts) = λ i. λ item. adds.0 item i in
+    let same : ◌≡◌ {A = Item → List ArgWord} (λ item. values_in (name_of item) rows) (given parts) = λ i. λ item. adds.0 item i in
     ap (option_and_then (λ v. command_of v (values_in (codes "numbers") rows) (λ item. values_in (name_of item) rows))) (named_verb named)
     ∙ ap₂ (command_of named) adds.1 same
 
-pub found_is_read : (first : Word) (rest : List Word) → Classes (first ∷ rest) → fault_of syntax (first ∷ rest) ≡ []
+pub found_is_read : (first : ArgWord) (rest : List ArgWord) → Classes (first ∷ rest) → fault_of syntax (first ∷ rest) ≡ []
     → option_and_then (λ p. named_in p.0 p.1) (subcommand_of syntax (first ∷ rest)) ≡ reading (first ∷ rest)
 found_is_read first rest classes none_fails = by_verb (verb_named first) refl
   where
-    by_parts : (named : Verb) (r : Option (List Part)) → fault_of syntax (verb_word named ∷ rest) ≡ [] → Walks named [] clear rest r
+    by_parts : (named : Verb) (r : Option (List Argument)) → fault_of syntax (verb_word named ∷ rest) ≡ [] → Walks named [] clear rest r
         → option_and_then (λ p. named_in p.0 p.1) (subcommand_of syntax (verb_word named ∷ rest)) ≡ option_and_then (from_parts named) r
     by_parts named None free h = absurd (h (sym (verb_faults named rest) ∙ free))
     by_parts named (Some parts) free h = ap (option_and_then (λ p. named_in p.0 p.1)) (verb_rows named rest) ∙ found_in named (end_rows [] clear rest) parts h.1
@@ -266,10 +266,10 @@ found_is_read first rest classes none_fails = by_verb (verb_named first) refl
         ∙ by_parts named (read None rest) (ap (λ w. fault_of syntax (w ∷ rest)) (sym same) ∙ none_fails) (walks named [] clear rest classes.1)
         ∙ ap (λ v. from_verb v rest) (sym is)
 
-pub refused_is_not_read : (first : Word) (rest : List Word) → Classes (first ∷ rest) → fault_of syntax (first ∷ rest) ≢ [] → reading (first ∷ rest) ≡ None
+pub refused_is_not_read : (first : ArgWord) (rest : List ArgWord) → Classes (first ∷ rest) → fault_of syntax (first ∷ rest) ≢ [] → reading (first ∷ rest) ≡ None
 refused_is_not_read first rest classes fails = by_verb (verb_named first) refl
   where
-    by_parts : (named : Verb) (r : Option (List Part)) → fault_of syntax (verb_word named ∷ rest) ≢ [] → Walks named [] clear rest r → option_and_then (from_parts named) r ≡ None
+    by_parts : (named : Verb) (r : Option (List Argument)) → fault_of syntax (verb_word named ∷ rest) ≢ [] → Walks named [] clear rest r → option_and_then (from_parts named) r ≡ None
     by_parts named None f h = refl
     by_parts named (Some parts) f h = absurd (f (verb_faults named rest ∙ h.0))
 
@@ -279,45 +279,45 @@ refused_is_not_read first rest classes fails = by_verb (verb_named first) refl
         ap (λ v. from_verb v rest) is
         ∙ by_parts named (read None rest) (λ e. fails (ap (λ w. fault_of syntax (w ∷ rest)) (named_same verb_word verbs first named is) ∙ e)) (walks named [] clear rest classes.1)
 
-pub spelled_in_range : (words : List Word) (command : Command) → SpellsCommand words command → IsInRange command
+pub spelled_in_range : (words : List ArgWord) (command : Command) → SpellsCommand words command → IsInRange command
 spelled_in_range words command no_words = record { workers = default_range Workers; turns = default_range Turns; slice = default_range Slice }
 spelled_in_range words command (verb_first named parts made e) = (command_facts named (numbers parts) (given parts) made e).3
 
 -- ---- what is answered
 
-read_classes : (words : List Word) → may_be_read words ≡ true → Classes words
+read_classes : (words : List ArgWord) → may_be_read words ≡ true → Classes words
 read_classes words e = classes_of words (both_true (nat_le (length words) word_limit) _ e).1
 
 -- the command that clap finds is what the words are read as
-pub found_whole : (words : List Word) → words ≢ [] → may_be_read words ≡ true → fault_of syntax words ≡ [] → option_and_then (λ p. named_in p.0 p.1) (subcommand_of syntax words) ≡ reading words
+pub found_whole : (words : List ArgWord) → words ≢ [] → may_be_read words ≡ true → fault_of syntax words ≡ [] → option_and_then (λ p. named_in p.0 p.1) (subcommand_of syntax words) ≡ reading words
 found_whole [] full e f = absurd (full refl)
 found_whole (first ∷ rest) full e f = found_is_read first rest (read_classes (first ∷ rest) e) f
 
-pub found_spelled : (words : List Word) (command : Command) → words ≢ [] → may_be_read words ≡ true → fault_of syntax words ≡ []
+pub found_spelled : (words : List ArgWord) (command : Command) → words ≢ [] → may_be_read words ≡ true → fault_of syntax words ≡ []
     → Some command ≡ option_and_then (λ p. named_in p.0 p.1) (subcommand_of syntax words) → SpellsCommand words command
 found_spelled words command full e f is = read_is_spelled words command (sym (found_whole words full e f) ∙ sym is)
 
-not_read : (words : List Word) → reading words ≡ None → SpellsNothing words
+not_read : (words : List ArgWord) → reading words ≡ None → SpellsNothing words
 not_read words e command spelled = let bad : None ≡ Some command = sym e ∙ spelled_is_read words command spelled in cc
 
-pub found_nothing : (words : List Word) → words ≢ [] → may_be_read words ≡ true → fault_of syntax words ≡ []
+pub found_nothing : (words : List ArgWord) → words ≢ [] → may_be_read words ≡ true → fault_of syntax words ≡ []
     → None ≡ option_and_then (λ p. named_in p.0 p.1) (subcommand_of syntax words) → SpellsNothing words
 found_nothing words full e f is = not_read words (sym (found_whole words full e f) ∙ sym is)
 
-pub refused_nothing : (words : List Word) → words ≢ [] → may_be_read words ≡ true → fault_of syntax words ≢ [] → SpellsNothing words
+pub refused_nothing : (words : List ArgWord) → words ≢ [] → may_be_read words ≡ true → fault_of syntax words ≢ [] → SpellsNothing words
 refused_nothing [] full e f = absurd (full refl)
 refused_nothing (first ∷ rest) full e f = not_read (first ∷ rest) (refused_is_not_read first rest (read_classes (first ∷ rest) e) f)
 
-pub screened_nothing : (words : List Word) → may_be_read words ≡ false → SpellsNothing words
+pub screened_nothing : (words : List ArgWord) → may_be_read words ≡ false → SpellsNothing words
 screened_nothing words e command spelled = true≢false (sym (spelled_may_be_read words command spelled) ∙ e)
 
 -- the clauses of an answer, by what it says
-abbrev pub Answered : List Word → Command → Result Command CliFail → Type 0
+abbrev pub Answered : List ArgWord → Command → Result Command CliFail → Type 0
 Answered words command result = (result ≡ Ok command) ⊎ (result ≡ Err NoMemory)
 
-pub ok_spelled : (words : List Word) (given : Command) → SpellsCommand words given → (command : Command) → SpellsCommand words command → Answered words command (Ok given)
+pub ok_spelled : (words : List ArgWord) (given : Command) → SpellsCommand words given → (command : Command) → SpellsCommand words command → Answered words command (Ok given)
 ok_spelled words given is command other = inl (ap Ok (spelled_once words given command is other))
 
-pub err_spelled : (words : List Word) (fail : CliFail) → (fail ≡ Usage → SpellsNothing words) → (command : Command) → SpellsCommand words command → Answered words command (Err fail)
+pub err_spelled : (words : List ArgWord) (fail : CliFail) → (fail ≡ Usage → SpellsNothing words) → (command : Command) → SpellsCommand words command → Answered words command (Err fail)
 err_spelled words Usage nothing command is = absurd (nothing refl command is)
 err_spelled words NoMemory nothing command is = inr refl

@@ -7,11 +7,11 @@ use Rattle.ame_cli.specs.declared.item.Item.TheVariants.{Workers, Turns, Slice}
 use Rattle.ame_cli.specs.Limits.{worker_limit, turn_limit, slice_limit}
 
 -- the bytes of a word
-abbrev pub Word : Type 0
-Word = List ℕ
+abbrev pub ArgWord : Type 0
+ArgWord = List ℕ
 
 -- the name
-abbrev pub name_of : Item → Word
+abbrev pub name_of : Item → ArgWord
 name_of Workers = codes "workers"
 name_of Turns = codes "turns"
 name_of Slice = codes "slice"

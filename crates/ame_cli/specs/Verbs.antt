@@ -10,11 +10,11 @@ use Rattle.ame_cli.specs.declared.command.Options.{Options}
 use Rattle.ame_cli.specs.declared.command.Command.{Command}
 use Rattle.ame_cli.specs.declared.command.Command.TheVariants as command
 use Rattle.ame_cli.specs.Limits.{seed_limit, size_limit}
-use Rattle.ame_cli.specs.Items.{Word}
+use Rattle.ame_cli.specs.Items.{ArgWord}
 
 -- a verb: its word, the bounds of its number words in their order, and the options that it may be given
 pub record VerbForm : Type 0 where
-  pub word : Word
+  pub word : ArgWord
   pub numbers : List Bounds
   pub items : List Item
 
@@ -55,9 +55,9 @@ unfoldable pub verbs : List Verb
 verbs = Run ∷ Bench ∷ Sim ∷ Replay ∷ Check ∷ Resume ∷ Weak ∷ []
 
 -- the word of a verb
-abbrev pub verb_word : Verb → Word
+abbrev pub verb_word : Verb → ArgWord
 verb_word verb = (verb_form verb).word
 
 -- the verb of a word
-abbrev pub verb_named : Word → Option Verb
+abbrev pub verb_named : ArgWord → Option Verb
 verb_named word = find (λ verb. bytes_eq (verb_word verb) word) verbs

@@ -21,4 +21,4 @@ pub use limits::{
     DIGIT_LIMIT, SEED_LIMIT, SIZE_LIMIT, SLICE_LIMIT, TURN_LIMIT, WORD_LIMIT, WORKER_LIMIT,
 };
 pub use read::read_words;
-pub use verb::{Form, Verb};
+pub use verb::{Verb, VerbGrammar};

@@ -20,7 +20,7 @@ pub enum Verb {
 
 /// A verb's word, the bounds of its number words in their order, and the options that it may be given.
 #[derive(Clone, Copy, Debug)]
-pub struct Form {
+pub struct VerbGrammar {
     pub word: &'static str,
     pub numbers: &'static [Bounds],
     pub items: &'static [Item],
@@ -57,43 +57,43 @@ impl Verb {
     }
 
     /// Returns the words that may follow a verb.
-    pub fn form(self) -> Form
+    pub fn form(self) -> VerbGrammar
         ensures word { result.word.now ≡ (verb_form self).word }
         ensures numbers { result.numbers.now ≡ (verb_form self).numbers }
         ensures items { result.items.now ≡ (verb_form self).items }
     {
         match self {
-            Verb::Run => Form {
+            Verb::Run => VerbGrammar {
                 word: "run",
                 numbers: &[],
                 items: ALL_ITEMS,
             },
-            Verb::Bench => Form {
+            Verb::Bench => VerbGrammar {
                 word: "bench",
                 numbers: &[SEEDS, SIZES],
                 items: ALL_ITEMS,
             },
-            Verb::Sim => Form {
+            Verb::Sim => VerbGrammar {
                 word: "sim",
                 numbers: &[SEEDS],
                 items: ALL_ITEMS,
             },
-            Verb::Replay => Form {
+            Verb::Replay => VerbGrammar {
                 word: "replay",
                 numbers: &[],
                 items: ALL_ITEMS,
             },
-            Verb::Check => Form {
+            Verb::Check => VerbGrammar {
                 word: "check",
                 numbers: &[],
                 items: &[],
             },
-            Verb::Resume => Form {
+            Verb::Resume => VerbGrammar {
                 word: "resume",
                 numbers: &[],
                 items: ALL_ITEMS,
             },
-            Verb::Weak => Form {
+            Verb::Weak => VerbGrammar {
                 word: "weak",
                 numbers: &[SEEDS],
                 items: &[Item::Turns],

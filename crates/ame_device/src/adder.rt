@@ -4,9 +4,9 @@ ghost use Rattle.ame_device.specs.Calls.{AnswersCall, arguments, told};
 ghost use Rattle.ame_device.specs.Sums.{wrapping_sum};
 ghost use Rattle.ame_device.specs.declared.told.DeviceKind.{DeviceKind};
 
+use crate::call_log::CallLog;
 use crate::device::Device;
 use crate::fault::DeviceFail;
-use crate::log::Log;
 use crate::told::Heard;
 use std::alloc::Global;
 use std::marker::Model;
@@ -15,7 +15,7 @@ use std::marker::Model;
 /// fails.
 #[derive(Drop)]
 pub struct Adder {
-    log: Log,
+    log: CallLog,
     sum: i64,
 }
 
@@ -38,7 +38,7 @@ impl Adder {
         ensures { result ≡ record { heard = []; faults = 0 } }
     {
         Adder {
-            log: Log::new(alloc),
+            log: CallLog::new(alloc),
             sum: 0,
         }
     }

@@ -3,9 +3,9 @@ ghost use Rattle.std.specs.Prelude.{◌≡◌, ◌≢◌, ◌+◌, [], Some, Err
 ghost use Rattle.ame_device.specs.Calls.{AnswersCall, told};
 ghost use Rattle.ame_device.specs.declared.told.DeviceKind.{DeviceKind};
 
+use crate::call_log::CallLog;
 use crate::device::Device;
 use crate::fault::DeviceFail;
-use crate::log::Log;
 use crate::told::Heard;
 use std::alloc::Global;
 use std::marker::Model;
@@ -13,7 +13,7 @@ use std::marker::Model;
 /// Answers how many calls it answered, this one among them. It never fails.
 #[derive(Drop)]
 pub struct Counter {
-    log: Log,
+    log: CallLog,
 }
 
 impl Model for Counter {
@@ -30,7 +30,7 @@ impl Counter {
         ensures { result ≡ record { heard = []; faults = 0 } }
     {
         Counter {
-            log: Log::new(alloc),
+            log: CallLog::new(alloc),
         }
     }
 }

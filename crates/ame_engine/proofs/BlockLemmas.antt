@@ -24,7 +24,7 @@ use Rattle.ame_machine.specs.Need.{Need}
 use Rattle.ame_machine.specs.Sound.{IsSoundStage}
 use Rattle.ame_machine.proofs.NeedLemmas.{comes_as}
 use Rattle.ame_protocol.specs.declared.types.Attempt.{Attempt}
-use Rattle.ame_protocol.specs.declared.types.Reason.{Reason}
+use Rattle.ame_protocol.specs.declared.types.UndoReason.{UndoReason}
 use Rattle.ame_protocol.specs.declared.types.Task.{Task}
 use Rattle.ame_protocol.specs.Engine.Parts.{Parts, heap_in, task_at, run_in}
 use Rattle.ame_protocol.specs.Engine.Shown.{shown_pool}
@@ -124,7 +124,7 @@ module _ {C V M : Type 0} (meaning : Meaning C V M)
       abbrev after : Core C V M
       after = record core {
         entries = entries;
-        tasks = slice_set core.tasks seat (Task.Undoing later Reason.Noted);
+        tasks = slice_set core.tasks seat (Task.Undoing later UndoReason.Noted);
         pool = pool;
         turns = core.turns + 1;
         counters = one_counted Counted.Block core.counters;
@@ -149,7 +149,7 @@ module _ {C V M : Type 0} (meaning : Meaning C V M)
 
       parts-with : List Entry → Roster Tree → Attempt → Parts
       parts-with es p a =
-          record parts { entries = es; tasks = slice_set core.tasks seat (Task.Undoing a Reason.Noted); pool = p; turns = core.turns + 1 }
+          record parts { entries = es; tasks = slice_set core.tasks seat (Task.Undoing a UndoReason.Noted); pool = p; turns = core.turns + 1 }
 
       parts-noted : parts_of meaning after ≡ has_noted seat attempt s.steps (place_shown s) parts
       unfolding parts-with

@@ -6,7 +6,7 @@ use Rattle.std.proofs.lemmas.List.Elements.{All-cons, All-head, All-tail, All-ma
 use Rattle.ame_term.specs.Tree.{Tree}
 use Rattle.ame_term.specs.declared.types.Loc.{Loc}
 use Rattle.ame_pool.specs.declared.member.Member.{Member}
-use Rattle.ame_pool.specs.declared.member.Standing.{Standing}
+use Rattle.ame_pool.specs.declared.member.MemberStanding.{MemberStanding}
 use Rattle.ame_pool.specs.Members.{find, except, is_busy}
 use Rattle.ame_pool.specs.Roster.{Roster}
 use Rattle.ame_pool.specs.Waking.{stirred_by}
@@ -97,10 +97,10 @@ module _ {M : Type 0} (term : M → Tree) where
   busy-by None h = h
   busy-by (Some m) h = by m.standing h
     where
-      by : (x : Standing) → IsTrue (is_busy_as false (record (shown_member term m) { standing = x })) → IsTrue (is_busy (record m { standing = x }))
-      by Standing.Ready h = h
-      by (Standing.Busy w) h = refl
-      by (Standing.Parked locs) h = h
+      by : (x : MemberStanding) → IsTrue (is_busy_as false (record (shown_member term m) { standing = x })) → IsTrue (is_busy (record m { standing = x }))
+      by MemberStanding.Ready h = h
+      by (MemberStanding.Busy w) h = refl
+      by (MemberStanding.Parked locs) h = h
 
   -- who is busy is so
   pub busy-told : (n : ℕ) (pool : Roster M) → IsAt (is_busy_as false) n (shown_pool term pool) → IsAt is_busy n pool

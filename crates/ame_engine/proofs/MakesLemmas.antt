@@ -19,7 +19,7 @@ use Rattle.ame_protocol.specs.Visits.Visit.{has_visited, has_been_refused}
 use Rattle.ame_rows.specs.MemoryView.{MemoryView}
 use Rattle.ame_protocol.specs.Event.Counting.{Counted, one_counted, one_invalid, one_undone}
 use Rattle.ame_protocol.specs.Event.Undoing.{reason_to_undo}
-use Rattle.ame_protocol.specs.Event.State.{State}
+use Rattle.ame_protocol.specs.Event.EngineState.{EngineState}
 use Rattle.ame_protocol.specs.Event.Event.{Event, Find, Reverse}
 use Rattle.ame_protocol.specs.Event.After.{after, counted_find}
 use Rattle.ame_protocol.specs.Event.May.{May}
@@ -37,9 +37,9 @@ module _ {C V M : Type 0} (meaning : Meaning C V M) where
     pub event-made : Makes meaning e old new → MakesEvent meaning counts becomes old new
     event-made m = record {
       code = m.code;
-      parts = ap (λ (s : State). s.parts) (m.state ∙ is);
-      counted = ap (λ (s : State). s.counters) (m.state ∙ is);
-      stop = ap (λ (s : State). s.stop) (m.state ∙ is);
+      parts = ap (λ (s : EngineState). s.parts) (m.state ∙ is);
+      counted = ap (λ (s : EngineState). s.counters) (m.state ∙ is);
+      stop = ap (λ (s : EngineState). s.stop) (m.state ∙ is);
     }
 
     pub made-event : new.certificates ≡ old.certificates → May e (state_of meaning old) → MakesEvent meaning counts becomes old new → Makes meaning e old new
@@ -55,9 +55,9 @@ module _ {C V M : Type 0} (meaning : Meaning C V M) where
     pub last-made : Makes meaning e old new → MakesLastEvent meaning why counts becomes old new
     last-made m = record {
       code = m.code;
-      parts = ap (λ (s : State). s.parts) (m.state ∙ is);
-      counted = ap (λ (s : State). s.counters) (m.state ∙ is);
-      stop = ap (λ (s : State). s.stop) (m.state ∙ is);
+      parts = ap (λ (s : EngineState). s.parts) (m.state ∙ is);
+      counted = ap (λ (s : EngineState). s.counters) (m.state ∙ is);
+      stop = ap (λ (s : EngineState). s.stop) (m.state ∙ is);
     }
 
     pub made-last : new.certificates ≡ old.certificates → May e (state_of meaning old) → MakesLastEvent meaning why counts becomes old new → Makes meaning e old new

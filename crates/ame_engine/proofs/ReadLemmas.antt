@@ -32,7 +32,7 @@ use Rattle.ame_protocol.specs.Row.Shown.{shown_cell}
 use Rattle.ame_protocol.proofs.Engine.ShownMemoryLemmas.{read-shown}
 use Rattle.ame_rows.specs.Access.{IsRead}
 use Rattle.ame_rows.proofs.LookupLemmas.{get_there, all_at}
-use Rattle.ame_protocol.specs.Event.State.{State}
+use Rattle.ame_protocol.specs.Event.EngineState.{EngineState}
 use Rattle.ame_protocol.specs.Event.Event.{Event}
 use Rattle.ame_protocol.specs.Event.May.{May, ComesToAct}
 use Rattle.ame_engine.specs.Seen.{parts_of}
@@ -98,7 +98,7 @@ comes-to parts seat s on act outside there =
     )
 
 -- a machine on the run of a seat that wants an act before the slice is full has come to that act
-pub has-come : (st : State) (seat : ℕ) (s : MachineView) (on : IsOnSeat st.parts seat s) (act : Act) → s.inside ≡ false → HasNextAct s act
+pub has-come : (st : EngineState) (seat : ℕ) (s : MachineView) (on : IsOnSeat st.parts seat s) (act : Act) → s.inside ≡ false → HasNextAct s act
     → s.since < st.parts.limits.slice → ComesToAct st seat act
 has-come st seat s on act outside next early =
     let at = comes-to st.parts seat s on act outside next in

@@ -17,7 +17,7 @@ use Rattle.ame_check.specs.declared.stored.Stored.{Stored}
 use Rattle.ame_store.specs.declared.cell.Cell.{Cell}
 use Rattle.ame_store.specs.Cells.{IsFree}
 use Rattle.ame_pool.specs.declared.member.Member.{Member}
-use Rattle.ame_pool.specs.declared.member.Standing.{Standing}
+use Rattle.ame_pool.specs.declared.member.MemberStanding.{MemberStanding}
 use Rattle.ame_pool.specs.Members.{find, IsRising}
 use Rattle.ame_pool.specs.Keeps.{is_inside_at}
 use Rattle.ame_pool.specs.Calls.{machine_of}
@@ -32,10 +32,10 @@ use Rattle.ame_protocol.specs.declared.counters.Counters.{Counters}
 use Rattle.ame_protocol.specs.Engine.Parts.{Parts}
 use Rattle.ame_protocol.specs.Engine.Shown.{shown_member, shown_pool}
 use Rattle.ame_protocol.proofs.Engine.ShownPoolLemmas.{found-shown}
-use Rattle.ame_protocol.specs.Visits.Opened.{AreOpened, AreReady, HasMembersOf}
+use Rattle.ame_protocol.specs.Visits.Opened.{AreOpened, AreAllReady, HasMembersOf}
 use Rattle.ame_protocol.specs.Event.Counting.{nothing_counted}
 use Rattle.ame_protocol.specs.Event.Sound.{Sound}
-use Rattle.ame_protocol.specs.Event.State.{State, opened_state}
+use Rattle.ame_protocol.specs.Event.EngineState.{EngineState, opened_state}
 use Rattle.ame_protocol.proofs.Event.OpenedLemmas.{sound-opened}
 use Rattle.ame_engine.specs.Core.{Core}
 use Rattle.ame_engine.specs.Seen.{parts_of, term_shown}
@@ -69,10 +69,10 @@ module _ {M : Type 0} (term : M → Tree) where
   numbers-shown [] = refl
   numbers-shown (m ∷ ms) = ap (λ (ns : List ℕ). m.number ∷ ns) (numbers-shown ms)
 
-  ready-shown : (pool : Roster M) → AreReady pool → AreReady (shown_pool term pool)
+  ready-shown : (pool : Roster M) → AreAllReady pool → AreAllReady (shown_pool term pool)
   ready-shown pool r = record {
     rising = rising-shown pool.members r.rising;
-    ready = All-map (λ (m : Member Tree). (m.standing ≡ Standing.Ready) × (m.rollbacks ≡ 0)) (shown_member term) pool.members r.ready;
+    ready = All-map (λ (m : Member Tree). (m.standing ≡ MemberStanding.Ready) × (m.rollbacks ≡ 0)) (shown_member term) pool.members r.ready;
     order = r.order ∙ numbers-shown pool.members;
   }
 
@@ -154,14 +154,14 @@ module _ {C V M : Type 0} (meaning : Meaning C V M) (code : C) (limits : Limits)
         certificates = [];
       }
 
-      abbrev state : State
+      abbrev state : EngineState
       state = opened_state (meaning.program code) (meaning.signature code) limits base (shown meaning code same good_same shown_same place.cells cells are) (shown_pool term pool)
           st.led.state.output st.led.state.next
 
       parts-with : List (Log Val) → List ℤ → ℕ → Parts
       parts-with rows output next = record state.parts { memory = record { cells = state.parts.memory.cells; rows = rows }; output = output; next = next }
 
-      state-with : Parts → State
+      state-with : Parts → EngineState
       state-with parts = record { parts = parts; counters = nothing_counted; stop = None; certificates = [] }
 
       parts-resumed : parts_of meaning resumed_with ≡ state.parts

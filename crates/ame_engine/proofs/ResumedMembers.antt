@@ -12,7 +12,7 @@ use Rattle.ame_term.specs.Maps.{at}
 use Rattle.ame_laws.specs.Orderly.{NumbersRise}
 use Rattle.ame_laws.proofs.MapLemmas.{is_at-eq, lt-from_less}
 use Rattle.ame_pool.specs.declared.member.Member.{Member}
-use Rattle.ame_pool.specs.declared.member.Standing.{Standing}
+use Rattle.ame_pool.specs.declared.member.MemberStanding.{MemberStanding}
 use Rattle.ame_pool.specs.Members.{find, placed, IsRising}
 use Rattle.ame_pool.specs.Roster.{Roster}
 use Rattle.ame_pool.specs.Calls.{newcomer, joined}
@@ -90,9 +90,9 @@ module _ {C M : Type 0} (stage : C → M → MachineView) (code : C) where
           room = let few = g.room in let count : length rest ≡ suc (length behind) = ap length first in omega arith;
         })
 
-  all-ready : (es : List (ℕ × M)) → All (λ m. (m.standing ≡ Standing.Ready) × (m.rollbacks ≡ 0)) (map as_member es)
-  all-ready [] = All-nil (λ (m : Member M). (m.standing ≡ Standing.Ready) × (m.rollbacks ≡ 0))
-  all-ready (e ∷ es) = All-cons (λ (m : Member M). (m.standing ≡ Standing.Ready) × (m.rollbacks ≡ 0)) (as_member e) (map as_member es) (refl, refl) (all-ready es)
+  all-ready : (es : List (ℕ × M)) → All (λ m. (m.standing ≡ MemberStanding.Ready) × (m.rollbacks ≡ 0)) (map as_member es)
+  all-ready [] = All-nil (λ (m : Member M). (m.standing ≡ MemberStanding.Ready) × (m.rollbacks ≡ 0))
+  all-ready (e ∷ es) = All-cons (λ (m : Member M). (m.standing ≡ MemberStanding.Ready) × (m.rollbacks ≡ 0)) (as_member e) (map as_member es) (refl, refl) (all-ready es)
 
   none-left : (es : List (ℕ × M)) → (0 < length es → ⊥) → es ≡ []
   none-left [] empty = refl
@@ -106,7 +106,7 @@ module _ {C M : Type 0} (stage : C → M → MachineView) (code : C) where
         all = all;
         ready = record {
           rising = subst IsRising (sym all) (rising-members origin rise);
-          ready = subst (All (λ (m : Member M). (m.standing ≡ Standing.Ready) × (m.rollbacks ≡ 0))) (sym all) (all-ready origin);
+          ready = subst (All (λ (m : Member M). (m.standing ≡ MemberStanding.Ready) × (m.rollbacks ≡ 0))) (sym all) (all-ready origin);
           order = g.order;
         };
       }

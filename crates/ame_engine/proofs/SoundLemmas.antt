@@ -6,7 +6,7 @@ use Rattle.ame_machine.specs.RefSorts.{IsRefForm}
 use Rattle.ame_protocol.specs.Event.Event.{Event}
 use Rattle.ame_protocol.specs.Event.Rollbacks.{IsGoodPool}
 use Rattle.ame_protocol.specs.Event.Sound.{Sound}
-use Rattle.ame_protocol.specs.Event.State.{State}
+use Rattle.ame_protocol.specs.Event.EngineState.{EngineState}
 use Rattle.ame_protocol.proofs.Event.RollbackLemmas.{good-told}
 use Rattle.ame_protocol.proofs.Event.RunLemmas.{limits-stay}
 use Rattle.ame_protocol.proofs.Event.SoundLemmas.{sound-after}
@@ -36,4 +36,4 @@ module _ {C V M : Type 0} (meaning : Meaning C V M) where
         code = ap (λ (x : Core C V M). x.code) view ∙ sym makes.code
 
         limits : core.limits ≡ new.limits
-        limits = ap (λ (x : Core C V M). x.limits) view ∙ sym (ap (λ (s : State). s.parts.limits) makes.state ∙ limits-stay e (state_of meaning now))
+        limits = ap (λ (x : Core C V M). x.limits) view ∙ sym (ap (λ (s : EngineState). s.parts.limits) makes.state ∙ limits-stay e (state_of meaning now))

@@ -25,7 +25,7 @@ use Rattle.ame_engine.specs.Whole.{AreLimits, IsGoodLog, IsGoodUndo, IsAtRest, I
 use Rattle.ame_machine.specs.Meaning.{Meaning}
 use Rattle.ame_machine.specs.RefSorts.{IsRefForm}
 use Rattle.ame_protocol.specs.Event.Sound.{Sound}
-use Rattle.ame_protocol.specs.Event.State.{started_state}
+use Rattle.ame_protocol.specs.Event.EngineState.{started_state}
 use Rattle.ame_protocol.proofs.Event.SoundLemmas.{sound-start}
 use Rattle.ame_engine.specs.Makes.{state_of}
 

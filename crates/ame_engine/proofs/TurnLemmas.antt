@@ -6,7 +6,7 @@ use Rattle.ame_term.specs.Tree.{Val}
 use Rattle.ame_rows.specs.MemoryView.{Log, row_at}
 use Rattle.ame_protocol.specs.Row.SeatRun.{AreValid}
 use Rattle.ame_protocol.specs.declared.types.Attempt.{Attempt}
-use Rattle.ame_protocol.specs.declared.types.Reason.{Reason}
+use Rattle.ame_protocol.specs.declared.types.UndoReason.{UndoReason}
 use Rattle.ame_protocol.specs.declared.types.Task.{Task}
 use Rattle.ame_protocol.specs.declared.counters.Counters.{Counters}
 use Rattle.ame_protocol.specs.Engine.Parts.{Parts, heap_in, task_at, working}
@@ -56,7 +56,7 @@ module _ {C V M : Type 0} (meaning : Meaning C V M) where
       (is : task_at now.tasks seat ≡ Task.Running attempt) (left : now.turns < now.limits.turns) (going : now.stop ≡ None)
       (met : HasMet meaning now seat why) (counters : Counters) (counts : counters ≡ counted_at why core.counters) where
     abbrev after : Core C V M
-    after = record core { tasks = slice_set core.tasks seat (Task.Undoing attempt Reason.RolledBack); turns = core.turns + 1; counters = counters }
+    after = record core { tasks = slice_set core.tasks seat (Task.Undoing attempt UndoReason.RolledBack); turns = core.turns + 1; counters = counters }
 
     makes-it : Makes meaning (Event.TurnBack seat attempt (reverse_of why)) now after
     makes-it =

@@ -18,7 +18,7 @@ use Rattle.ame_rows.specs.Access.{changed_at}
 use Rattle.ame_rows.specs.LettingGo.{undone_by, last_entry, notes_undone, undone_last}
 use Rattle.ame_protocol.specs.Row.Shown.{shown_cell}
 use Rattle.ame_protocol.specs.declared.types.Attempt.{Attempt}
-use Rattle.ame_protocol.specs.declared.types.Reason.{Reason}
+use Rattle.ame_protocol.specs.declared.types.UndoReason.{UndoReason}
 use Rattle.ame_protocol.specs.declared.types.Task.{Task}
 use Rattle.ame_protocol.specs.Engine.Parts.{Parts, task_at, attempt_of}
 use Rattle.ame_protocol.specs.Engine.Shown.{shown_pool}
@@ -105,15 +105,15 @@ grow-shown view (cell ∷ cells) all = let later = grow-shown view cells (All-ta
 
 module _ {M : Type 0} where
   rest-home : (P : Member M → Type 0) → ((b : Bool) (m : Member M) → P m → P (at_home b m)) → ((m : Member M) → P m → P (at_rest m))
-      → (reason : Reason) (n : ℕ) (pool : Roster M) → All P pool.members → All P (home_for reason n pool).members
-  rest-home P at rests Reason.RolledBack n pool all = all_altered n (at_home true) P (at true) pool.members all
-  rest-home P at rests Reason.Noted n pool all = all_altered n at_rest P rests pool.members all
-  rest-home P at rests Reason.Stopped n pool all = all_altered n (at_home false) P (at false) pool.members all
+      → (reason : UndoReason) (n : ℕ) (pool : Roster M) → All P pool.members → All P (home_for reason n pool).members
+  rest-home P at rests UndoReason.RolledBack n pool all = all_altered n (at_home true) P (at true) pool.members all
+  rest-home P at rests UndoReason.Noted n pool all = all_altered n at_rest P rests pool.members all
+  rest-home P at rests UndoReason.Stopped n pool all = all_altered n (at_home false) P (at false) pool.members all
 
-  gone-shown : (term : M → Tree) (reason : Reason) (n : ℕ) (pool : Roster M) → shown_pool term (home_for reason n pool) ≡ brought_home reason n (shown_pool term pool)
-  gone-shown term Reason.RolledBack n pool = home-shown term n true pool
-  gone-shown term Reason.Noted n pool = parked-shown term n pool
-  gone-shown term Reason.Stopped n pool = home-shown term n false pool
+  gone-shown : (term : M → Tree) (reason : UndoReason) (n : ℕ) (pool : Roster M) → shown_pool term (home_for reason n pool) ≡ brought_home reason n (shown_pool term pool)
+  gone-shown term UndoReason.RolledBack n pool = home-shown term n true pool
+  gone-shown term UndoReason.Noted n pool = parked-shown term n pool
+  gone-shown term UndoReason.Stopped n pool = home-shown term n false pool
 
 -- The whole engine
 
@@ -126,7 +126,7 @@ module _ {C V M : Type 0} (meaning : Meaning C V M) where
     abbrev task : Task
     task = task_at core.tasks seat
 
-    abbrev reason : Reason
+    abbrev reason : UndoReason
     reason = reason_to_undo task
 
     abbrev undo_turns : ℕ

@@ -11,7 +11,7 @@ use Rattle.ame_pool.specs.Calls.{IsAt}
 use Rattle.ame_rows.specs.MemoryView.{Log, MemoryView, row_at}
 use Rattle.ame_rows.specs.LettingGo.{undone_last}
 use Rattle.ame_protocol.specs.declared.types.Attempt.{Attempt}
-use Rattle.ame_protocol.specs.declared.types.Reason.{Reason}
+use Rattle.ame_protocol.specs.declared.types.UndoReason.{UndoReason}
 use Rattle.ame_protocol.specs.declared.types.Task.{Task}
 use Rattle.ame_protocol.specs.declared.types.Tried.{Tried}
 use Rattle.ame_protocol.specs.Engine.Parts.{task_at, attempt_of}
@@ -46,14 +46,14 @@ attempt-in (Some a) h = (a, refl)
 
 -- who is busy by its term, is so
 module _ {M : Type 0} (term : M → Tree) where
-  busy-by : (reason : Reason) (o : Option (Member M)) → IsSomeAnd (option_map (shown_member term) o) (λ m. IsTrue (is_busy_as (is_noted_for reason) m))
+  busy-by : (reason : UndoReason) (o : Option (Member M)) → IsSomeAnd (option_map (shown_member term) o) (λ m. IsTrue (is_busy_as (is_noted_for reason) m))
       → IsSomeAnd o (λ m. IsTrue (is_busy_for reason m))
   busy-by reason None h = h
-  busy-by Reason.RolledBack (Some m) h = h
-  busy-by Reason.Noted (Some m) h = h
-  busy-by Reason.Stopped (Some m) h = h
+  busy-by UndoReason.RolledBack (Some m) h = h
+  busy-by UndoReason.Noted (Some m) h = h
+  busy-by UndoReason.Stopped (Some m) h = h
 
-  pub busy-same : (reason : Reason) (n : ℕ) (pool : Roster M) → IsAt (is_busy_as (is_noted_for reason)) n (shown_pool term pool) → IsAt (is_busy_for reason) n pool
+  pub busy-same : (reason : UndoReason) (n : ℕ) (pool : Roster M) → IsAt (is_busy_as (is_noted_for reason)) n (shown_pool term pool) → IsAt (is_busy_for reason) n pool
   busy-same reason n pool h =
       busy-by reason (find n pool.members)
       (subst (λ (o : Option (Member Tree)). IsSomeAnd o (λ m. IsTrue (is_busy_as (is_noted_for reason) m))) (found-shown term n pool.members) h)
@@ -82,7 +82,7 @@ module _ {C V M : Type 0} (meaning : Meaning C V M)
   pub undo-few : is_some core.stop ≡ false → core.turns < 4000000
   undo-few going = let h = left' going in let limit = whole.limits.turns in omega arith
 
-  module _ (t : Task) (read : t ≡ get_or core.tasks seat t) (attempt : Attempt) (its : attempt_of t ≡ Some attempt) (reason : Reason) (why : reason ≡ reason_to_undo t) where
+  module _ (t : Task) (read : t ≡ get_or core.tasks seat t) (attempt : Attempt) (its : attempt_of t ≡ Some attempt) (reason : UndoReason) (why : reason ≡ reason_to_undo t) where
     is : task_at core.tasks seat ≡ t
     is = task-read core.tasks seat t undo-within read
 
@@ -94,7 +94,7 @@ module _ {C V M : Type 0} (meaning : Meaning C V M)
 
     pub home-busy : IsAt (is_busy_for reason) attempt.tried.number core.pool
     home-busy =
-        subst (λ (r : Reason). IsAt (is_busy_for r) attempt.tried.number core.pool) (sym why-so)
+        subst (λ (r : UndoReason). IsAt (is_busy_for r) attempt.tried.number core.pool) (sym why-so)
         (by (task_at core.tasks seat) (whole.state.stands.seats seat) has-it)
       where
         by : (task : Task) → MeetsTask (parts_of meaning core) whole.state.stands.types seat task → attempt_of task ≡ Some attempt
@@ -102,12 +102,12 @@ module _ {C V M : Type 0} (meaning : Meaning C V M)
         by Task.Idle h e = absurd (let clash : attempt_of Task.Idle ≡ Some attempt = e in cc)
         by (Task.Running a) h e =
             let same : a ≡ attempt = cc in
-            subst (λ (x : Attempt). IsAt (is_busy_for Reason.Stopped) x.tried.number core.pool) same
-            (busy-same (term_shown meaning.stage core.code) Reason.Stopped a.tried.number core.pool h.work.busy)
+            subst (λ (x : Attempt). IsAt (is_busy_for UndoReason.Stopped) x.tried.number core.pool) same
+            (busy-same (term_shown meaning.stage core.code) UndoReason.Stopped a.tried.number core.pool h.work.busy)
         by (Task.Free a) h e =
             let same : a ≡ attempt = cc in
-            subst (λ (x : Attempt). IsAt (is_busy_for Reason.Stopped) x.tried.number core.pool) same
-            (busy-same (term_shown meaning.stage core.code) Reason.Stopped a.tried.number core.pool h.work.busy)
+            subst (λ (x : Attempt). IsAt (is_busy_for UndoReason.Stopped) x.tried.number core.pool) same
+            (busy-same (term_shown meaning.stage core.code) UndoReason.Stopped a.tried.number core.pool h.work.busy)
         by (Task.Undoing a r) h e =
             let same : a ≡ attempt = cc in
             subst (λ (x : Attempt). IsAt (is_busy_for r) x.tried.number core.pool) same
@@ -177,7 +177,7 @@ module _ {C V M : Type 0} (meaning : Meaning C V M)
       -- none is left
       module _ (pool : Roster M) (pool-is : pool ≡ home_for reason attempt.tried.number core.pool) (tried : List Tried) (tried-is : tried ≡ with_try attempt core.tried) where
         pool-so : pool ≡ home_for (reason_to_undo (task_at core.tasks seat)) attempt.tried.number core.pool
-        pool-so = pool-is ∙ ap (λ (r : Reason). home_for r attempt.tried.number core.pool) why-so
+        pool-so = pool-is ∙ ap (λ (r : UndoReason). home_for r attempt.tried.number core.pool) why-so
 
         abbrev after-gone : Core C V M
         after-gone = record core { memory = memory; tasks = slice_set core.tasks seat Task.Idle; pool = pool; turns = turns; counters = counters; tried = tried }

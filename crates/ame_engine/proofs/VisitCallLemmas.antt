@@ -14,7 +14,7 @@ use Rattle.ame_machine.specs.Run.Local.{LocalState}
 use Rattle.ame_pool.specs.Members.{is_busy}
 use Rattle.ame_pool.specs.Roster.{Roster}
 use Rattle.ame_pool.specs.Calls.{IsAt, is_running, at_home, home, exchanged, with_room}
-use Rattle.ame_protocol.specs.Row.SeatRun.{StandsAt}
+use Rattle.ame_protocol.specs.Row.SeatRun.{IsAtAct}
 use Rattle.ame_machine.specs.declared.wants.Wants.{Wants}
 use Rattle.ame_machine.specs.declared.wants.Wants.TheVariants as wants
 use Rattle.ame_machine.specs.MachineView.{MachineView, place_shown, with_answer}
@@ -26,7 +26,7 @@ use Rattle.ame_machine.specs.Acting.{replaced_by}
 use Rattle.ame_machine.proofs.NeedLemmas.{comes_as}
 use Rattle.ame_machine.proofs.FeedLemmas.{fed-answer}
 use Rattle.ame_protocol.specs.declared.types.Attempt.{Attempt}
-use Rattle.ame_protocol.specs.declared.types.Reason.{Reason}
+use Rattle.ame_protocol.specs.declared.types.UndoReason.{UndoReason}
 use Rattle.ame_protocol.specs.declared.types.Task.{Task}
 use Rattle.ame_protocol.specs.Engine.Parts.{Parts, task_at, term_at, working}
 use Rattle.ame_protocol.specs.Engine.Shown.{shown_pool}
@@ -36,7 +36,7 @@ use Rattle.ame_protocol.proofs.Engine.ShownPoolLemmas.{home-shown}
 use Rattle.ame_protocol.specs.Visits.Visit.{StepsTo, free_entry, has_been_refused}
 use Rattle.ame_protocol.proofs.Visits.PlaceLemmas.{visits, alone, calm, term-there, is-inside, call-met}
 use Rattle.ame_protocol.specs.Event.Faults.{ComesToCall, LeadsToCall}
-use Rattle.ame_engine.specs.declared.engine.free.change.Change.TheVariants as changes
+use Rattle.ame_engine.specs.declared.engine.free.change.CellChange.TheVariants as changes
 use Rattle.ame_protocol.specs.declared.stop.Stop.{Stop}
 use Rattle.ame_engine.specs.Core.{Core}
 use Rattle.ame_protocol.specs.Event.Counting.{Counted, one_counted}
@@ -78,7 +78,7 @@ module _ {C V M : Type 0} (meaning : Meaning C V M)
   -- A device refused
 
   pub refuse-running : IsAt is_running number core.pool
-  refuse-running = busy-same (term_shown meaning.stage core.code) Reason.Stopped number core.pool its-visit.work.busy
+  refuse-running = busy-same (term_shown meaning.stage core.code) UndoReason.Stopped number core.pool its-visit.work.busy
 
   module _ (device : ℕ) (pool : Roster M) (pool_is : pool ≡ home number false core.pool) where
     abbrev after-refused : Core C V M
@@ -153,7 +153,7 @@ module _ {C V M : Type 0} (meaning : Meaning C V M)
     next-act : HasNextAct s (Act.Calls device argument)
     next-act = (comes_as s (Need.Device device argument) need-there).1
 
-    stands-at : StandsAt Side.Unprotected (Act.Calls device argument) (place_shown s)
+    stands-at : IsAtAct Side.Unprotected (Act.Calls device argument) (place_shown s)
     stands-at = record {
       redex = next-act.0;
       stands = next-act.1 ∙ ap (λ (z : Side). Focus.AtRedex z next-act.0) (ap side_told visits-here.inside);

@@ -26,7 +26,7 @@ use Rattle.ame_protocol.proofs.Engine.ToldLemmas.{next-free}
 use Rattle.ame_protocol.specs.Visits.Visit.{free_entry, has_visited}
 use Rattle.ame_protocol.proofs.Visits.PlaceLemmas.{visits}
 use Rattle.ame_protocol.proofs.Visits.StandLemmas.{below-next}
-use Rattle.ame_engine.specs.declared.engine.free.change.Change.{Change}
+use Rattle.ame_engine.specs.declared.engine.free.change.CellChange.{CellChange}
 use Rattle.ame_engine.specs.Core.{Core}
 use Rattle.ame_protocol.specs.Event.Counting.{Counted, one_counted}
 use Rattle.ame_protocol.specs.Event.Event.{Event}
@@ -117,7 +117,7 @@ module _ {C V M : Type 0} (meaning : Meaning C V M)
       subst IsFit (sym (f ∙ ap (λ (x : Entry). record x { steps = x.steps + 1; answer = Some answer }) e)) (record { seat = end-few; answer = tt })
 
   -- A machine has come to the end of the visit.
-  module _ (m : M) (answer : Option ℤ) (change : Change V)
+  module _ (m : M) (answer : Option ℤ) (change : CellChange V)
       (visit-now : IsVisitTo (parts_of meaning now) number answer (meaning.stage now.code m)
       (changed_by (meaning.value_of now.code) change (parts_of meaning now).memory)) where
     abbrev s : MachineView

@@ -7,7 +7,7 @@ use Rattle.ame_protocol.specs.declared.types.Attempt.{Attempt}
 use Rattle.ame_protocol.specs.declared.types.Task.{Task}
 use Rattle.ame_protocol.specs.Engine.Parts.{Parts, task_at, working}
 use Rattle.ame_protocol.specs.Engine.Simulates.{Simulates}
-use Rattle.ame_engine.specs.declared.engine.free.change.Change.{Change}
+use Rattle.ame_engine.specs.declared.engine.free.change.CellChange.{CellChange}
 use Rattle.ame_engine.specs.Core.{Core}
 use Rattle.ame_engine.specs.Seen.{parts_of}
 use Rattle.ame_engine.specs.Makes.{MakesAt}
@@ -47,7 +47,7 @@ module _ {C V M : Type 0} (meaning : Meaning C V M)
   one-number : (attempt : Attempt) → task_at now.tasks seat ≡ Task.Free attempt → on.stands.attempt.tried.number ≡ attempt.tried.number
   one-number attempt is = ap (λ (t : Task). (unwrap_or (working t) attempt).tried.number) (sym free-task ∙ is)
 
-  module _ (attempt : Attempt) (is : task_at now.tasks seat ≡ Task.Free attempt) (n : M) (change : Change V)
+  module _ (attempt : Attempt) (is : task_at now.tasks seat ≡ Task.Free attempt) (n : M) (change : CellChange V)
       (served : HasMadeItsStep meaning now m n change) where
     pub served-visit : IsVisitTo parts attempt.tried.number None (meaning.stage now.code n) (changed_by (meaning.value_of now.code) change parts.memory)
     served-visit =

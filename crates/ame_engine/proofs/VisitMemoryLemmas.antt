@@ -16,8 +16,8 @@ use Rattle.ame_rows.specs.Committed.{old_value, settled_value, committed}
 use Rattle.ame_rows.proofs.LookupLemmas.{all_at}
 use Rattle.ame_protocol.specs.Engine.Shown.{shown_memory}
 use Rattle.ame_protocol.proofs.Engine.ShownMemoryLemmas.{put-shown, born-shown}
-use Rattle.ame_engine.specs.declared.engine.free.change.Change.{Change}
-use Rattle.ame_engine.specs.declared.engine.free.change.Change.TheVariants as changes
+use Rattle.ame_engine.specs.declared.engine.free.change.CellChange.{CellChange}
+use Rattle.ame_engine.specs.declared.engine.free.change.CellChange.TheVariants as changes
 use Rattle.ame_engine.specs.Whole.{IsGoodUndo, IsGoodLog, IsGoodMemory}
 use Rattle.ame_engine.specs.Visiting.{changed_by, IsGoodChange}
 use Rattle.ame_engine.proofs.ReadLemmas.{row-good}
@@ -74,7 +74,7 @@ module _ {V : Type 0} (IsGood : V → Type 0) (IsForm : Sort → ℕ → Type 0)
       All-set (λ (x : Cell V). IsForm x.sort x.ty.0) cells l (replaced value cell)
       (all_at (λ (x : Cell V). IsForm x.sort x.ty.0) cells l cell (slice_get_within cells l cell e) e all) all
 
-  pub changed-good : (change : Change V) (c : MemoryView V) → IsGoodChange IsGood IsForm change → IsGoodMemory IsGood IsForm c
+  pub changed-good : (change : CellChange V) (c : MemoryView V) → IsGoodChange IsGood IsForm change → IsGoodMemory IsGood IsForm c
       → IsGoodMemory IsGood IsForm (changed_by (λ v. v) change c)
   changed-good changes.Stays c good all = all
   changed-good (changes.Puts l value) c good all = record {
@@ -89,7 +89,7 @@ module _ {V : Type 0} (IsGood : V → Type 0) (IsForm : Sort → ℕ → Type 0)
   }
 
 module _ {V : Type 0} (view : V → Val) where
-  pub changed-shown : (change : Change V) (c : MemoryView V) → shown_memory view (changed_by (λ v. v) change c) ≡ changed_by view change (shown_memory view c)
+  pub changed-shown : (change : CellChange V) (c : MemoryView V) → shown_memory view (changed_by (λ v. v) change c) ≡ changed_by view change (shown_memory view c)
   changed-shown changes.Stays c = refl
   changed-shown (changes.Puts l value) c = put-shown view l.0 value c
   changed-shown (changes.Makes sort number value) c = born-shown view sort number value c

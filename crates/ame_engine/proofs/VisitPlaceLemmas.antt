@@ -12,7 +12,7 @@ use Rattle.ame_journal.specs.Replay.{redex_act}
 use Rattle.ame_machine.specs.Run.Local.{LocalState, begun_with, fed, refilled_in, local}
 use Rattle.ame_machine.proofs.Run.RunLemmas.{one-more}
 use Rattle.ame_rows.specs.MemoryView.{Log, MemoryView, row_at}
-use Rattle.ame_protocol.specs.Row.SeatRun.{StandsAt}
+use Rattle.ame_protocol.specs.Row.SeatRun.{IsAtAct}
 use Rattle.ame_machine.specs.declared.wants.Wants.{Wants}
 use Rattle.ame_machine.specs.declared.wants.Wants.TheVariants as wants
 use Rattle.ame_machine.specs.MachineView.{MachineView, running_side, place_shown, without_footprint, with_answer, OnRun}
@@ -93,7 +93,7 @@ module _ (parts : Parts) (stands : Simulates parts) (seat : ℕ) (s : MachineVie
         let x = fed-to v s n e in
         let which : Some (act_of x.redex) ≡ Some act = sym (ap redex_act x.stands) ∙ ap redex_act at.1 ∙ ap (λ (a : Act). Some a) at.2 in
         let acts : act_of x.redex ≡ act = ap (λ (o : Option Act). unwrap_or o act) which in
-        let stands_at : StandsAt Side.Unprotected act (place_shown s) =
+        let stands_at : IsAtAct Side.Unprotected act (place_shown s) =
         record { redex = x.redex; stands = x.stands ∙ ap (λ (z : Side). Focus.AtRedex z x.redex) unprotected-side; acts = acts } in
         let gives : fed act Side.Unprotected v (place_shown s) ≡ Some x.made =
         subst (λ (z : Side). fed act z v (place_shown s) ≡ Some x.made) unprotected-side

@@ -18,7 +18,7 @@ use Rattle.ame_machine.specs.Run.Local.{LocalState}
 use Rattle.ame_rows.specs.Committed.{committed}
 use Rattle.ame_rows.proofs.LookupLemmas.{all_at}
 use Rattle.ame_protocol.specs.Row.Heap.{no_cell, cell_at, IsCell}
-use Rattle.ame_protocol.specs.Row.SeatRun.{StandsAt}
+use Rattle.ame_protocol.specs.Row.SeatRun.{IsAtAct}
 use Rattle.ame_protocol.specs.Row.Shown.{shown_cell}
 use Rattle.ame_protocol.specs.Row.Free.{MeetsLive}
 use Rattle.ame_machine.specs.declared.wants.Wants.{Wants}
@@ -39,8 +39,8 @@ use Rattle.ame_protocol.proofs.Engine.ShownMemoryLemmas.{committed-shown}
 use Rattle.ame_protocol.proofs.Engine.ToldLemmas.{cells-grow, cells-few}
 use Rattle.ame_protocol.specs.Visits.Visit.{StepsTo}
 use Rattle.ame_protocol.proofs.Visits.PlaceLemmas.{alone, read-met, write-met, peek-met, free-there, in-place, some-there}
-use Rattle.ame_engine.specs.declared.engine.free.change.Change.{Change}
-use Rattle.ame_engine.specs.declared.engine.free.change.Change.TheVariants as changes
+use Rattle.ame_engine.specs.declared.engine.free.change.CellChange.{CellChange}
+use Rattle.ame_engine.specs.declared.engine.free.change.CellChange.TheVariants as changes
 use Rattle.ame_engine.specs.Core.{Core}
 use Rattle.ame_engine.specs.Seen.{parts_of}
 use Rattle.ame_engine.specs.Whole.{IsSound}
@@ -98,7 +98,7 @@ module _ {C V M : Type 0} (meaning : Meaning C V M) (same : V → V → Type 0)
   abbrev s : MachineView
   s = meaning.stage core.code m
 
-  abbrev Served : Core C V M → M → Change V → Type 0
+  abbrev Served : Core C V M → M → CellChange V → Type 0
   Served x n change = HasMadeItsStep meaning x m n change
 
   abbrev seat : ℕ
@@ -119,7 +119,7 @@ module _ {C V M : Type 0} (meaning : Meaning C V M) (same : V → V → Type 0)
   steps : StepsTo parts on.attempt.tried.number s.steps (place_shown s)
   steps = visit-steps parts whole.state.stands seat s on inside
 
-  stands-at : (act : Act) → HasNextAct s act → StandsAt Side.Unprotected act (place_shown s)
+  stands-at : (act : Act) → HasNextAct s act → IsAtAct Side.Unprotected act (place_shown s)
   stands-at act at = record { redex = at.0; stands = at.1 ∙ ap (λ (z : Side). Focus.AtRedex z at.0) (ap side_told inside); acts = at.2 }
 
   need-there : (w : Wants) → s.want ≡ Some w → need_told w ≡ need_of s

@@ -3,7 +3,7 @@ use Rattle.std.specs.Prelude.{◌≡◌, ℤ, Option}
 use Rattle.ame_machine.specs.Run.Local.{LocalState}
 use Rattle.ame_machine.specs.MachineView.{MachineView, place_shown, without_footprint, with_answer}
 use Rattle.ame_machine.specs.Meaning.{Meaning}
-use Rattle.ame_protocol.specs.Event.State.{State}
+use Rattle.ame_protocol.specs.Event.EngineState.{EngineState}
 use Rattle.ame_protocol.specs.Event.Event.{Event}
 use Rattle.ame_protocol.specs.Event.After.{after}
 use Rattle.ame_protocol.specs.Event.May.{May}
@@ -12,7 +12,7 @@ use Rattle.ame_engine.specs.Seen.{parts_of}
 
 module _ {C V M : Type 0} (meaning : Meaning C V M) where
   -- Returns the state of an engine: all that events change.
-  abbrev pub state_of : Core C V M → State
+  abbrev pub state_of : Core C V M → EngineState
   state_of core = record { parts = parts_of meaning core; counters = core.counters; stop = core.stop; certificates = core.certificates }
 
   -- An engine makes an event of its protocol: it may be, code stays, and the state becomes what the event makes of it.

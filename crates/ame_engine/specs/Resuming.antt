@@ -18,8 +18,8 @@ use Rattle.ame_pool.specs.Roster.{Roster}
 use Rattle.ame_pool.specs.Calls.{newcomer}
 use Rattle.ame_protocol.specs.declared.types.Limits.{Limits}
 use Rattle.ame_protocol.specs.Engine.Simulates.{most_opened}
-use Rattle.ame_protocol.specs.Visits.Opened.{AreOpened, AreReady, HasMembersOf}
-use Rattle.ame_protocol.specs.Event.State.{opened_state}
+use Rattle.ame_protocol.specs.Visits.Opened.{AreOpened, AreAllReady, HasMembersOf}
+use Rattle.ame_protocol.specs.Event.EngineState.{opened_state}
 use Rattle.ame_engine.specs.Core.{Core}
 use Rattle.ame_engine.specs.Makes.{state_of}
 use Rattle.ame_engine.specs.declared.resume_fail.ResumeFail.{ResumeFail}
@@ -68,7 +68,7 @@ module _ {V : Type 0} (same : V → V → Type 0) where
 -- These are the members of a replay, all of them ready in order of their numbers.
 pub record AreMembersOf {C M : Type 0} (stage : C → M → MachineView) (code : C) (members : List (ℕ × M)) (pool : Roster M) : Type 0 where
   pub all : pool.members ≡ map (λ member. newcomer member.0 member.1 (stage code member.1).inside) members
-  pub ready : AreReady pool
+  pub ready : AreAllReady pool
 
 -- An engine that continues from a base has the state to which the base leads, with all members ready and each seat idle. Nothing is
 -- counted.
@@ -81,5 +81,5 @@ pub record HasResumed {C V M : Type 0} (meaning : Meaning C V M) (limits : Limit
   pub has_cells : AreOpened (meaning.signature core.code) types cells led.state
   pub pool : Roster Tree
   pub has_members : HasMembersOf led pool
-  pub ready : AreReady pool
+  pub ready : AreAllReady pool
   pub state : state_of meaning core ≡ opened_state (meaning.program core.code) (meaning.signature core.code) limits base cells pool led.state.output led.state.next

@@ -7,7 +7,7 @@ use Rattle.ame_machine.specs.Meaning.{Meaning}
 use Rattle.ame_protocol.specs.declared.counters.Counters.{Counters}
 use Rattle.ame_protocol.specs.Event.Counting.{Counted, one_counted, one_invalid}
 use Rattle.ame_protocol.specs.Event.Event.{Find, Reverse}
-use Rattle.ame_protocol.specs.Event.State.{cell}
+use Rattle.ame_protocol.specs.Event.EngineState.{cell}
 use Rattle.ame_engine.specs.declared.engine.turn.Setback.{Setback}
 use Rattle.ame_engine.specs.declared.engine.turn.Setback.TheVariants as setback
 use Rattle.ame_engine.specs.Core.{Core}

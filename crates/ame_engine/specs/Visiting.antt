@@ -23,8 +23,8 @@ use Rattle.ame_protocol.specs.declared.types.Task.{Task}
 use Rattle.ame_protocol.specs.declared.types.Attempt.{Attempt}
 use Rattle.ame_protocol.specs.Engine.Parts.{Parts, task_at}
 use Rattle.ame_protocol.specs.Visits.Visit.{IsVisit, has_visited, has_been_refused}
-use Rattle.ame_engine.specs.declared.engine.free.change.Change.{Change}
-use Rattle.ame_engine.specs.declared.engine.free.change.Change.TheVariants as changes
+use Rattle.ame_engine.specs.declared.engine.free.change.CellChange.{CellChange}
+use Rattle.ame_engine.specs.declared.engine.free.change.CellChange.TheVariants as changes
 use Rattle.ame_protocol.specs.declared.stop.Stop.{Stop}
 use Rattle.ame_protocol.specs.Event.Counting.{Counted, one_counted}
 use Rattle.ame_engine.specs.Core.{Core}
@@ -84,31 +84,31 @@ SettlesThere s = (tells_leave s.want || s.inside) ≡ s.inside
 
 module _ {V : Type 0} where
   -- Returns a shared memory after a change.
-  abbrev pub changed_by : {W : Type 0} → (V → W) → Change V → MemoryView W → MemoryView W
+  abbrev pub changed_by : {W : Type 0} → (V → W) → CellChange V → MemoryView W → MemoryView W
   changed_by view changes.Stays memory = memory
   changed_by view (changes.Puts l value) memory = put_at l.0 (view value) memory
   changed_by view (changes.Makes sort number value) memory = born sort number (view value) memory
 
   -- A change can be made: a cell that is written has no owner, and there is a location for a new cell.
-  abbrev pub CanChange : MemoryView V → Change V → Type 0
+  abbrev pub CanChange : MemoryView V → CellChange V → Type 0
   CanChange memory changes.Stays = Unit {0}
   CanChange memory (changes.Puts l value) = (l.0 < length memory.cells) × ForSome (slice_get memory.cells l.0) IsFree × ForSome (slice_get memory.cells l.0) CanGrow
   CanChange memory (changes.Makes sort number value) = length memory.cells < 4294967295
 
   -- The value that a change puts in place is good, and a new cell is a cell of a form.
-  abbrev pub IsGoodChange : (V → Type 0) → (Sort → ℕ → Type 0) → Change V → Type 0
+  abbrev pub IsGoodChange : (V → Type 0) → (Sort → ℕ → Type 0) → CellChange V → Type 0
   IsGoodChange IsGood IsForm changes.Stays = Unit {0}
   IsGoodChange IsGood IsForm (changes.Puts l value) = IsGood value
   IsGoodChange IsGood IsForm (changes.Makes sort number value) = IsGood value × IsForm sort number.0
 
   -- Returns whether a change makes a cell.
-  abbrev pub makes_cell : Change V → Bool
+  abbrev pub makes_cell : CellChange V → Bool
   makes_cell (changes.Makes sort number value) = true
   makes_cell _ = false
 
 module _ {C V M : Type 0} (meaning : Meaning C V M) where
   -- A machine has made the step that it wanted of the committed state, if it wanted one, and the memory is to change so.
-  pub record HasMadeItsStep (core : Core C V M) (old new : M) (change : Change V) : Type 0 where
+  pub record HasMadeItsStep (core : Core C V M) (old new : M) (change : CellChange V) : Type 0 where
     pub machine : meaning.is_machine core.code new
     pub visits : (told : List Told) → VisitsTo (meaning.stage core.code old) (parts_of meaning core).memory told None (meaning.stage core.code new)
         (changed_by (meaning.value_of core.code) change (parts_of meaning core).memory) told

@@ -18,10 +18,10 @@ use Rattle.ame_weak.specs.Tries.{noted_tries, tries_behind}
 use Rattle.ame_weak.specs.declared.tries.Try.{Try}
 use Rattle.ame_labels.specs.EntryNumbers.{counts_from}
 use Rattle.ame_labels.specs.Ledger.{IsLedgerAt, LedgerPasses, ComesIn, CountsMore}
-use Rattle.ame_labels.specs.declared.ledger.Ledger.{Ledger}
+use Rattle.ame_labels.specs.declared.entry_count.EntryCount.{EntryCount}
 
 -- Some notes of these tries are counted, and the rest is to come.
-pub record IsCountedSoFar (n : ℕ) (all rest : List Try) (old new : Ledger) : Type 0 where
+pub record IsCountedSoFar (n : ℕ) (all rest : List Try) (old new : EntryCount) : Type 0 where
   pub count : new.count + length (noted_tries n rest) ≡ old.count + length (noted_tries n all)
   pub others : tries_behind n rest ≡ tries_behind n all
   pub inside : new.inside ≡ old.inside
@@ -33,7 +33,7 @@ one-more n i x = grind (arith, nat_tests)
 pub one-less : (n i : ℕ) (x : Bool) → cond (is_at (nat_cmp n) i) false x ≡ (not (i == n) && x)
 one-less n i x = grind (arith, nat_tests)
 
-pub ledger-entered : (p : Place) (l : Ledger) (inside : BTreeSet ℕ) → IsLedgerAt p l
+pub ledger-entered : (p : Place) (l : EntryCount) (inside : BTreeSet ℕ) → IsLedgerAt p l
     → ((i : ℕ) → contains nat_cmp inside i ≡ cond (is_at (nat_cmp l.number) i) true (contains nat_cmp l.inside i))
     → IsLedgerAt (record p { inside = p.number ∷ p.inside }) (record l { inside = inside })
 ledger-entered p l inside s update = record {
@@ -46,7 +46,7 @@ ledger-entered p l inside s update = record {
 pub others-same : (i n k : ℕ) → (k == i) ≡ true → not (k == n) ≡ not (i == n)
 others-same i n k e = ap (λ m. not (m == n)) (eqb-true k i e)
 
-pub ledger-left : (p : Place) (l : Ledger) (n : ℕ) (inside : BTreeSet ℕ) → IsLedgerAt p l
+pub ledger-left : (p : Place) (l : EntryCount) (n : ℕ) (inside : BTreeSet ℕ) → IsLedgerAt p l
     → ((i : ℕ) → contains nat_cmp inside i ≡ cond (is_at (nat_cmp n) i) false (contains nat_cmp l.inside i))
     → IsLedgerAt (record p { inside = filter (λ j. not (j == n)) p.inside }) (record l { inside = inside })
 ledger-left p l n inside s update = record {
@@ -57,36 +57,36 @@ ledger-left p l n inside s update = record {
 }
 
 -- it still stands for a place
-pub ledger-same : (p : Place) (n : ℕ) (old new : Ledger) → CountsMore n old new → IsLedgerAt p old → IsLedgerAt p new
+pub ledger-same : (p : Place) (n : ℕ) (old new : EntryCount) → CountsMore n old new → IsLedgerAt p old → IsLedgerAt p new
 ledger-same p n old new a s = record {
   inside = λ i. ap (λ (z : BTreeSet ℕ). contains nat_cmp z i) a.inside ∙ s.inside i;
   number = a.number ∙ s.number;
 }
 
-pub steps-there : (l : Ledger) (kind : StepKind) → LedgerPasses (Label.Step kind) l l
+pub steps-there : (l : EntryCount) (kind : StepKind) → LedgerPasses (Label.Step kind) l l
 steps-there l kind p s = (record { inside = s.inside; number = s.number }, omega arith)
 
-pub ends-there : (old new : Ledger) → CountsMore 1 old new → LedgerPasses Label.End old new
+pub ends-there : (old new : EntryCount) → CountsMore 1 old new → LedgerPasses Label.End old new
 ends-there old new m p s = (ledger-same p 1 old new m s, m.count)
 
-pub leaves-there : (old added : Ledger) (inside : BTreeSet ℕ) → CountsMore 1 old added
+pub leaves-there : (old added : EntryCount) (inside : BTreeSet ℕ) → CountsMore 1 old added
     → ((i : ℕ) → contains nat_cmp inside i ≡ cond (is_at (nat_cmp added.number) i) true (contains nat_cmp added.inside i))
     → LedgerPasses Label.Leave old (record added { inside = inside })
 leaves-there old added inside m update p s = (ledger-entered p added inside (ledger-same p 1 old added m s) update, m.count)
 
 -- an entry after the arrival
-one-behind : (i : ℕ) (entry : Entry) (p : Place) (old arrived added : Ledger) → arrived.count ≡ old.count + length (arrival p.inside i) → CountsMore 1 arrived added
+one-behind : (i : ℕ) (entry : Entry) (p : Place) (old arrived added : EntryCount) → arrived.count ≡ old.count + length (arrival p.inside i) → CountsMore 1 arrived added
     → added.count ≡ old.count + length (arrival p.inside i ++ entry ∷ [])
 one-behind i entry p old arrived added came_in m = omega (arith, m.count, came_in, length-append (arrival p.inside i) (entry ∷ []))
 
-pub frees-there : (i : ℕ) (old arrived added : Ledger) → ComesIn i old arrived → CountsMore 1 arrived added → (kind : StepKind) → LedgerPasses (Label.Free i kind) old added
+pub frees-there : (i : ℕ) (old arrived added : EntryCount) → ComesIn i old arrived → CountsMore 1 arrived added → (kind : StepKind) → LedgerPasses (Label.Free i kind) old added
 frees-there i old arrived added c m kind p s =
     let x = c p s in (
       ledger-same (record p { inside = came p.inside i }) 1 arrived added m x.0,
       one-behind i (freed i (fresh_of kind) (device_answer kind)) p old arrived added x.1 m,
     )
 
-pub closes-there : (i : ℕ) (old arrived added : Ledger) (inside : BTreeSet ℕ) → ComesIn i old arrived → CountsMore 1 arrived added
+pub closes-there : (i : ℕ) (old arrived added : EntryCount) (inside : BTreeSet ℕ) → ComesIn i old arrived → CountsMore 1 arrived added
     → ((j : ℕ) → contains nat_cmp inside j ≡ cond (is_at (nat_cmp i) j) false (contains nat_cmp added.inside j))
     → LedgerPasses (Label.Close i) old (record added { inside = inside })
 closes-there i old arrived added inside c m update p s =
@@ -96,13 +96,13 @@ closes-there i old arrived added inside c m update p s =
     )
 
 -- The counts of the first k labels, with those of the labels and tries to come, are all of them.
-pub record AreCountsTo (labels : List Label) (tries : List Try) (k : ℕ) (rest : List Try) (l : Ledger) (counts : List ℕ) : Type 0 where
+pub record AreCountsTo (labels : List Label) (tries : List Try) (k : ℕ) (rest : List Try) (l : EntryCount) (counts : List ℕ) : Type 0 where
   pub place : Place
   pub stands : IsLedgerAt place l
   pub counted : counts ++ counts_from k l.count rest place (drop k labels) ≡ counts_from 0 0 tries outset labels
 
 module _ (labels : List Label) (tries : List Try) where
-  pub counts-more : (k : ℕ) (ts rest : List Try) (l noted next : Ledger) (counts more : List ℕ) (d : Label) → AreCountsTo labels tries k ts l counts → k < length labels
+  pub counts-more : (k : ℕ) (ts rest : List Try) (l noted next : EntryCount) (counts more : List ℕ) (d : Label) → AreCountsTo labels tries k ts l counts → k < length labels
       → CountsMore (length (noted_tries k ts)) l noted → rest ≡ tries_behind k ts → LedgerPasses (get_or labels k d) noted next → more ≡ counts ++ next.count ∷ []
       → AreCountsTo labels tries (k + 1) rest next more
   counts-more k ts rest l noted next counts more d c within notes others passes added =
@@ -123,7 +123,7 @@ module _ (labels : List Label) (tries : List Try) where
             ∙ c.counted;
       }
 
-pub counts-end : (labels : List Label) (tries : List Try) (k : ℕ) (ts : List Try) (l : Ledger) (counts : List ℕ) → length labels ≤ k
+pub counts-end : (labels : List Label) (tries : List Try) (k : ℕ) (ts : List Try) (l : EntryCount) (counts : List ℕ) → length labels ≤ k
     → AreCountsTo labels tries k ts l counts → counts ≡ counts_from 0 0 tries outset labels
 counts-end labels tries k ts l counts all c =
     sym (append-nil counts) ∙ ap (λ (ls : List Label). counts ++ counts_from k l.count ts c.place ls) (sym (drop_all k labels all)) ∙ c.counted

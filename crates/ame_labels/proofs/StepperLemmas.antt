@@ -26,7 +26,7 @@ use Rattle.ame_print.specs.Printer.{spelling_of}
 use Rattle.ame_strong.specs.Pool.{but, pool}
 use Rattle.ame_strong.specs.View.{state_of}
 use Rattle.ame_labels.specs.Stepped.{kind_of, label_words, reduced_term, shown_term, changed_location, stored_words, started_words, label_row, entry_heading, HasLabels, Rows, ShowsSteps}
-use Rattle.ame_labels.specs.Steppers.{Stays, AddsRow, AddsAll, Takes, Steps, StepsAlong, step_label, AreSilent, MakesLast, IsStepperAt, MakesLabels, MakesEntry}
+use Rattle.ame_labels.specs.Steppers.{ShowsSame, AddsRow, AddsAll, TakesLabel, MakesStep, StepsAlong, step_label, AreSilent, MakesLast, IsStepperAt, MakesLabels, MakesEntry}
 use Rattle.ame_labels.specs.declared.steps.Stepper.{Stepper}
 use Rattle.ame_labels.proofs.LedgerLemmas.{one-more, one-less, others-same}
 
@@ -98,7 +98,7 @@ steps-begin inside fresh s = record {
   kept = refl;
 }
 
-pub steps-more : (inside : Option ℕ) (n : ℕ) (fresh mid rest : List ℕ) (a b c : Stepper) → StepsAlong inside n fresh mid a b → Steps inside mid rest b c
+pub steps-more : (inside : Option ℕ) (n : ℕ) (fresh mid rest : List ℕ) (a b c : Stepper) → StepsAlong inside n fresh mid a b → MakesStep inside mid rest b c
     → StepsAlong inside (n + 1) fresh rest a c
 steps-more inside n fresh mid rest a b c x y = record {
   kinds = x.kinds ++ y.kind ∷ [];
@@ -131,15 +131,15 @@ adds-inside label a b inside adds = record { names = adds.names; legal = adds.le
 -- Last steps
 
 pub last-answered : (i : ℕ) (fresh : List ℕ) (told : Option ℤ) (answer : ℤ) (m : Bool) (old new : Stepper) → told ≡ Some answer → fresh ≡ []
-    → Takes (Label.Free i (StepKind.Device answer)) m old new → m ≡ true → MakesLast i fresh told old new
+    → TakesLabel (Label.Free i (StepKind.Device answer)) m old new → m ≡ true → MakesLast i fresh told old new
 last-answered i fresh told answer m old new is none takes so = MakesLast.steps (StepKind.Device answer) none is (takes.made so) takes.inside
 
-pub last-step : (i : ℕ) (fresh rest : List ℕ) (told : Option ℤ) (old new : Stepper) → told ≡ None → Steps (Some i) fresh rest old new → rest ≡ []
+pub last-step : (i : ℕ) (fresh rest : List ℕ) (told : Option ℤ) (old new : Stepper) → told ≡ None → MakesStep (Some i) fresh rest old new → rest ≡ []
     → MakesLast i fresh told old new
 last-step i fresh rest told old new is s none =
     MakesLast.steps s.kind (s.uses.made ∙ ap (λ (z : List ℕ). fresh_of s.kind ++ z) none ∙ append-nil (fresh_of s.kind)) (is ∙ sym s.uses.silent) s.adds s.kept
 
-pub last-closed : (i : ℕ) (fresh : List ℕ) (m : Bool) (old mid : Stepper) (inside : BTreeSet ℕ) → fresh ≡ [] → Takes (Label.Close i) m old mid → m ≡ true
+pub last-closed : (i : ℕ) (fresh : List ℕ) (m : Bool) (old mid : Stepper) (inside : BTreeSet ℕ) → fresh ≡ [] → TakesLabel (Label.Close i) m old mid → m ≡ true
     → ((k : ℕ) → contains nat_cmp inside k ≡ cond (is_at (nat_cmp i) k) false (contains nat_cmp mid.inside k)) → MakesLast i fresh None old (record mid { inside = inside })
 last-closed i fresh m old mid inside none takes so update =
     MakesLast.closes none refl (adds-inside (Label.Close i) old mid inside (takes.made so))
@@ -300,7 +300,7 @@ module _ (r : Replayed) (entry : Entry) (old : Stepper) (stands : IsStepperAt r 
         (λ k. update k ∙ ap (λ (z : BTreeSet ℕ). cond (is_at (nat_cmp entry.number) k) false (contains nat_cmp z k)) steps.kept))
 
 -- from where nothing had changed that a row shows
-pub makes-from : (entry : Entry) (old mid new : Stepper) → Stays old mid → ((r : Replayed) → IsStepperAt r mid → MakesLabels r entry mid new)
+pub makes-from : (entry : Entry) (old mid new : Stepper) → ShowsSame old mid → ((r : Replayed) → IsStepperAt r mid → MakesLabels r entry mid new)
     → (r : Replayed) → IsStepperAt r old → MakesLabels r entry old new
 makes-from entry old mid new same makes r stands =
     let m = makes r (record { state = same.state ∙ stands.state; inside = λ k. ap (λ (z : BTreeSet ℕ). contains nat_cmp z k) same.inside ∙ stands.inside k }) in
@@ -336,7 +336,7 @@ pub takes-made : (old new : Stepper) (label : Label) (before : List ℕ) (change
     → changed ≡ changed_location (kind_of label) (reduced_term (state_of old.state) label)
     → new.page ≡ old.page ++ (before ++ stored_words (spelling_of new.names.items) (state_of new.state) changed
     ++ started_words (state_of old.state).next (kind_of label) ++ codes "\n")
-    → Takes label true old new
+    → TakesLabel label true old new
 takes-made old new label before changed names inside legal shown told page = record {
   inside = inside;
   made = λ e. record {
@@ -351,7 +351,7 @@ takes-made old new label before changed names inside legal shown told page = rec
 }
 
 -- one isn't legal
-pub takes-none : (old new : Stepper) (label : Label) → Stays old new → after (state_of old.state) label ≡ None → Takes label false old new
+pub takes-none : (old new : Stepper) (label : Label) → ShowsSame old new → after (state_of old.state) label ≡ None → TakesLabel label false old new
 takes-none old new label stays refused = record { inside = stays.inside; made = λ e. cc; refused = λ e. (stays, refused) }
 
 -- what is so of what is there

@@ -16,7 +16,7 @@ use Rattle.ame_labels.specs.Stepped.{label_row, HasLabels, Rows}
 use Rattle.ame_labels.specs.declared.steps.Stepper.{Stepper}
 
 -- nothing changes that a row shows
-pub record Stays (old new : Stepper) : Type 0 where
+pub record ShowsSame (old new : Stepper) : Type 0 where
   pub names : spelling_of new.names.items ≡ spelling_of old.names.items
   pub inside : new.inside ≡ old.inside
   pub state : state_of new.state ≡ state_of old.state
@@ -36,10 +36,10 @@ pub record AddsAll (labels : List Label) (old new : Stepper) : Type 0 where
   pub page : new.page ≡ old.page ++ part
 
 -- a label was made, or it isn't legal
-pub record Takes (label : Label) (is_made : Bool) (old new : Stepper) : Type 0 where
+pub record TakesLabel (label : Label) (is_made : Bool) (old new : Stepper) : Type 0 where
   pub inside : new.inside ≡ old.inside
   pub made : is_made ≡ true → AddsRow label old new
-  pub refused : is_made ≡ false → Stays old new × (after (state_of old.state) label ≡ None)
+  pub refused : is_made ≡ false → ShowsSame old new × (after (state_of old.state) label ≡ None)
 
 -- the label of a step of the active member, or of one that is inside
 abbrev pub step_label : Option ℕ → StepKind → Label
@@ -52,7 +52,7 @@ pub record Uses (kind : StepKind) (fresh rest : List ℕ) : Type 0 where
   pub silent : device_answer kind ≡ None
 
 -- such a step was made
-pub record Steps (inside : Option ℕ) (fresh rest : List ℕ) (old new : Stepper) : Type 0 where
+pub record MakesStep (inside : Option ℕ) (fresh rest : List ℕ) (old new : Stepper) : Type 0 where
   pub kind : StepKind
   pub uses : Uses kind fresh rest
   pub adds : AddsRow (step_label inside kind) old new

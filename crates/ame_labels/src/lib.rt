@@ -1,8 +1,8 @@
 //! The labels of a run, strong or weak, as rows.
 #![tactic(auto)]
 
+mod entry_count;
 mod label_row;
-mod ledger;
 mod marked;
 mod numbering;
 mod steps;

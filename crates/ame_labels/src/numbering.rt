@@ -4,7 +4,7 @@ ghost use Rattle.std.specs.Prelude.{◌≡◌, IfOk, length};
 ghost use Rattle.ame_weak.specs.Straight.{outset};
 ghost use Rattle.ame_labels.specs.EntryNumbers as spec;
 
-use crate::ledger::Ledger;
+use crate::entry_count::EntryCount;
 use ame_term::{Label, NoMemory};
 use ame_weak::Try;
 use std::alloc::Global;
@@ -22,7 +22,7 @@ pub fn entry_numbers(alloc: Global, labels: &[Label], tries: &[Try]) -> Result<V
 fn counts_of(alloc: Global, labels: &[Label], tries: &[Try]) -> Result<Vec<u64>, NoMemory>
     ensures { IfOk result (λ counts. counts.items ≡ spec.counts_from 0 0 tries.now outset labels.now) }
 {
-    let mut ledger = Ledger::new(alloc);
+    let mut ledger = EntryCount::new(alloc);
     let mut counts = Vec::new(alloc);
     let mut rest = tries;
     for (n, label) in labels.iter().enumerate() {

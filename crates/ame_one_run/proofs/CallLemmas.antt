@@ -16,7 +16,7 @@ use Rattle.ame_journal.specs.Replay.{redex_act, member_act}
 use Rattle.ame_journal.specs.Calls.{call_at, label_call, of_next, calls_along}
 use Rattle.ame_device.specs.Calls.{answered}
 use Rattle.ame_device.specs.declared.told.Heard.{Heard}
-use Rattle.ame_one_run.specs.Calls.{Asked, RunsAsking, heard_by}
+use Rattle.ame_one_run.specs.Calls.{DeviceCall, RunsAsking, heard_by}
 
 -- the form that calls a device
 abbrev pub calling : ℕ → ℤ → Tree
@@ -29,19 +29,19 @@ called_form s _ _ _ _ _ (Reduces.answering device n reply) = (device, n, refl)
 
 -- The calls of a run
 
-asking_call : (s t u : State) (i : ℕ) (answer : ℤ) (labels : List Label) (more : List Asked) → Rule s (Label.Free i (StepKind.Device answer)) t →
-    RunsAsking t labels more u → (calls : List Asked) × RunsAsking s (Label.Free i (StepKind.Device answer) ∷ labels) calls u
+asking_call : (s t u : State) (i : ℕ) (answer : ℤ) (labels : List Label) (more : List DeviceCall) → Rule s (Label.Free i (StepKind.Device answer)) t →
+    RunsAsking t labels more u → (calls : List DeviceCall) × RunsAsking s (Label.Free i (StepKind.Device answer) ∷ labels) calls u
 asking_call s _ u _ _ labels more (Rule.frees i (StepKind.Device answer) t idle st) rest =
     let c = called_form s Side.Unprotected answer st.redex st.part st.after_effect st.reduces in
-    let asked : Asked = record { device = c.0; heard = answered c.1 answer } in
+    let asked : DeviceCall = record { device = c.0; heard = answered c.1 answer } in
     (asked ∷ more, RunsAsking.call s t u i st.frames asked labels more (st.found ∙ ap (λ (r : Tree). Some (plug_all st.frames r)) c.2) (Rule.frees i (StepKind.Device answer) t idle st) rest)
 
-asking : (s t u : State) (label : Label) (labels : List Label) (more : List Asked) → Rule s label t → RunsAsking t labels more u →
-    (calls : List Asked) × RunsAsking s (label ∷ labels) calls u
+asking : (s t u : State) (label : Label) (labels : List Label) (more : List DeviceCall) → Rule s label t → RunsAsking t labels more u →
+    (calls : List DeviceCall) × RunsAsking s (label ∷ labels) calls u
 asking s t u (Label.Free i (StepKind.Device answer)) labels more rule rest = asking_call s t u i answer labels more rule rest
 asking s t u label labels more rule rest = (more, RunsAsking.other s t u label labels more (λ i answer e. cc) rule rest)
 
-pub runs-ask : (s : State) (labels : List Label) (u : State) → Runs s labels u → (calls : List Asked) × RunsAsking s labels calls u
+pub runs-ask : (s : State) (labels : List Label) (u : State) → Runs s labels u → (calls : List DeviceCall) × RunsAsking s labels calls u
 runs-ask _ _ _ (Runs.none s) = ([], RunsAsking.none s)
 runs-ask _ _ _ (Runs.more s t u label labels rule runs) =
     let rest = runs-ask t labels u runs in asking s t u label labels rest.0 rule rest.1
@@ -62,14 +62,14 @@ at_call s i device argument frames found =
     ∙ ap redex_act (focused frames (calling device argument) refl)
 
 -- the calls of one device, by whether the first one is of it
-first_heard : (k device : ℕ) (argument answer : ℤ) (more : List Asked) (others : List (ℤ × ℤ)) (b : Bool) → (device == k) ≡ b →
+first_heard : (k device : ℕ) (argument answer : ℤ) (more : List DeviceCall) (others : List (ℤ × ℤ)) (b : Bool) → (device == k) ≡ b →
     heard_by k more ≡ map (λ call. answered call.0 call.1) others →
     heard_by k (record { device = device; heard = answered argument answer } ∷ more)
     ≡ map (λ call. answered call.0 call.1) ((if device == k then (argument, answer) ∷ [] else []) ++ others)
 first_heard k device argument answer more others true is rest = rw is (ap (λ (l : List Heard). answered argument answer ∷ l) rest)
 first_heard k device argument answer more others false is rest = rw is rest
 
-pub asks-along : (k : ℕ) (s : State) (labels : List Label) (calls : List Asked) (u : State) → RunsAsking s labels calls u →
+pub asks-along : (k : ℕ) (s : State) (labels : List Label) (calls : List DeviceCall) (u : State) → RunsAsking s labels calls u →
     heard_by k calls ≡ map (λ call. answered call.0 call.1) (calls_along k s labels)
 asks-along k _ _ _ _ (RunsAsking.none s) = refl
 asks-along k _ _ _ _ (RunsAsking.call s t u i frames asked labels more found rule rest) =

@@ -26,19 +26,19 @@ use Rattle.ame_weak.specs.Weak.{Weak}
 use Rattle.ame_weak.specs.Straight.{outset}
 use Rattle.ame_weak.specs.Tries.{straight_with}
 use Rattle.ame_weak.specs.declared.tries.Try.{Try}
-use Rattle.ame_app.specs.declared.left.Left.{Left}
+use Rattle.ame_app.specs.declared.run_result.RunResult.{RunResult}
 use Rattle.ame_app.specs.declared.parts.Front.{Front}
 use Rattle.ame_app.specs.Answered.{IsPromised}
 use Rattle.ame_app.specs.Calls.{Call}
 use Rattle.ame_app.specs.Headline.{limits_of, IsRanOf, Headline, journal_of}
-use Rattle.ame_app.specs.Left.{end_in}
+use Rattle.ame_app.specs.RunResult.{end_in}
 use Rattle.ame_app.specs.Reported.{RunView, Reported}
 use Rattle.ame_app.specs.Verbs.{options_of, BeginsFrom, Promises}
 use Rattle.ame_app.specs.Verbs.Check.{entries_before}
 use Rattle.ame_app.specs.Verbs.Weak.{IsNoteAtEnd, IsWeakJournal, IsWeakened}
 use Rattle.ame_app.proofs.CodeLemmas.{some-weaker}
 use Rattle.ame_app.proofs.ResumeLemmas.{acts-are}
-use Rattle.ame_certified.specs.Low.{StaysLow}
+use Rattle.ame_certified.specs.Low.{IsLowJournal}
 use Rattle.ame_certified.specs.RoundTrip.{IsNeverInvalid, IsRoundTrip}
 use Rattle.ame_certified.specs.WeakTries.{IsTallNote}
 use Rattle.ame_certified.proofs.JudgedLemmas.{never-invalid, none-low}
@@ -78,7 +78,7 @@ engine-slice _ options made ranges is = absurd made
 -- the entries from which it goes on have no notes, and pass no tall form
 record IsGoodBase (program : Tree) (base : List Entry) : Type 0 where
   plain : All (λ (e : Entry). is_note e.kind ≡ false) base
-  low : StaysLow program base
+  low : IsLowJournal program base
 
 none-good : (program : Tree) (base : List Entry) → base ≡ [] → IsGoodBase program base
 none-good program base none =
@@ -130,7 +130,7 @@ both-ways output other (judged.Long n) never round = tt
 both-ways output other (judged.Tall n) never round = round
 
 -- an engine makes the run, or it is a weak one
-made-so : (command : Command) (front : Front) (code : FlatCode) (limits : Limits) (before : Ends) (left : Left) → Promises command front code limits before left
+made-so : (command : Command) (front : Front) (code : FlatCode) (limits : Limits) (before : Ends) (left : RunResult) → Promises command front code limits before left
     → IsByEngine command ⊎ ((seed : ℕ) × (turns : ℕ) × IsWeakened (program_of code) seed turns left)
 made-so (Command.Run options) front code limits before left own = inl tt
 made-so (Command.Bench seed size options) front code limits before left own = inl tt
@@ -162,7 +162,7 @@ module _ (call : Call) (report : Reported) (run : RunView) (before after : Ends)
 
   weakly : (seed turns : ℕ) → IsWeakened (program_of h.compiled) seed turns run.left → IsRoundTrip (end_in run.left).output judged
   weakly seed turns w =
-      let there = subst (λ (left : Left). Judges (program_of h.compiled) (journal_of (end_in left)) judged) w.left_is is in
+      let there = subst (λ (left : RunResult). Judges (program_of h.compiled) (journal_of (end_in left)) judged) w.left_is is in
       both-ways (end_in run.left).output w.journal.weak.state.output judged never
       (weak-valid h.compiled w.weak.labels.items w.weak.tries.items w.weak.journal.entries judged w.journal there)
 

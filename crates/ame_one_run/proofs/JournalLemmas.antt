@@ -15,7 +15,7 @@ use Rattle.ame_journal.proofs.LabelLemmas.{unfold-entry, unfold-all, unfolds_all
 use Rattle.ame_journal.proofs.ReachedLemmas.{calm-replayed}
 use Rattle.ame_journal.proofs.ReplayLemmas.{replay_from-one}
 use Rattle.ame_device.specs.Calls.{answered}
-use Rattle.ame_one_run.specs.Calls.{Asked, RunsAsking, heard_by}
+use Rattle.ame_one_run.specs.Calls.{DeviceCall, RunsAsking, heard_by}
 use Rattle.ame_one_run.specs.Reached.{GrowsTooHigh}
 use Rattle.ame_one_run.proofs.CallLemmas.{runs-ask, asks-along}
 use Rattle.ame_one_run.proofs.ReachedLemmas.{noted-grows}
@@ -23,7 +23,7 @@ use Rattle.ame_one_run.proofs.ReachedLemmas.{noted-grows}
 -- labels that lead by the rules to the replayed state, with nothing active there, and make the calls of the journal
 pub record IsShown (program : Tree) (entries : List Entry) (final : Replayed) : Type 0 where
   pub labels : List Label
-  pub calls : List Asked
+  pub calls : List DeviceCall
   pub runs : RunsAsking (start program) labels calls final.state
   pub rests : final.state.active ≡ None
   pub heard : (k : ℕ) → heard_by k calls ≡ map (λ call. answered call.0 call.1) (device_calls k program entries)

@@ -27,7 +27,7 @@ use Rattle.ame_shell.specs.Heard.{answered_all, and_more, added_calls}
 use Rattle.ame_app.specs.declared.parts.Front.{Front}
 use Rattle.ame_app.specs.declared.status.Status.{Status}
 use Rattle.ame_app.specs.Verbs.{BeginsFrom, written_behind}
-use Rattle.ame_app.specs.Left.{end_in}
+use Rattle.ame_app.specs.RunResult.{end_in}
 use Rattle.ame_app.specs.Reported.{RunView, Reported}
 use Rattle.ame_app.specs.Calls.{Given, Call, IsTextOf, Asks}
 use Rattle.ame_app.specs.Causes.{status_of, RunCause, CommandCause}

@@ -24,7 +24,7 @@ use Rattle.ame_journal.specs.Labels.{fragment_labels, free_labels, attempt_label
 use Rattle.ame_journal.specs.declared.certificate.Certificate.{Certificate}
 use Rattle.ame_protocol.specs.Waits.Certificates.{IsCertificate}
 use Rattle.ame_protocol.specs.Event.Faults.{ComesToCall}
-use Rattle.ame_one_run.specs.Reached.{Fails, IsBlockedIn, ComesToCallOf, GrowsTooHigh}
+use Rattle.ame_one_run.specs.Reached.{ReachesFalse, IsBlockedIn, ComesToCallOf, GrowsTooHigh}
 use Rattle.ame_one_run.proofs.CallLemmas.{calling, called_form}
 
 some_such : {X : Type 0} (test : X → Bool) (o : Option X) → has_such test o ≡ true → (x : X) × (o ≡ Some x) × (test x ≡ true)
@@ -37,7 +37,7 @@ condition_is_false : (f : Focus) → is_false_condition f ≡ true → f ≡ Foc
 condition_is_false (Focus.AtRedex Side.Protected (Tree.One unary.Block (Tree.Held (Val.Bool false)))) e = refl
 condition_is_false _ e = cc
 
-pub certified-fails : (s : State) (i n : ℕ) (fresh : List ℕ) → IsCertificate s i n fresh → Fails s i
+pub certified-fails : (s : State) (i n : ℕ) (fresh : List ℕ) → IsCertificate s i n fresh → ReachesFalse s i
 certified-fails s i n fresh c =
     let m = some_such (λ term. is_false_condition (focus term)) (at c.reached.members i) c.fails in
     let block = Tree.One unary.Block (Tree.Held (Val.Bool false)) in
@@ -63,12 +63,12 @@ some-left s (c ∷ cs) members some none =
 pub certified-blocked : (s : State) (certificates : List Certificate) → All (λ c. IsCertificate s c.number c.steps c.fresh) certificates →
     ((number : ℕ) → IsSome (at s.members number) ↔ Contains (map (λ c. c.number) certificates) number) → (certificates ≡ [] → ⊥) → IsBlockedIn s
 certified-blocked s certificates hold members some =
-    let fail = All-map (Fails s) (λ (c : Certificate). c.number) certificates
-    (All-weaker (λ (c : Certificate). IsCertificate s c.number c.steps c.fresh) (λ (c : Certificate). Fails s c.number)
+    let fail = All-map (ReachesFalse s) (λ (c : Certificate). c.number) certificates
+    (All-weaker (λ (c : Certificate). IsCertificate s c.number c.steps c.fresh) (λ (c : Certificate). ReachesFalse s c.number)
     (λ c holds. certified-fails s c.number c.steps c.fresh holds) certificates hold) in
     record {
       left = some-left s certificates members some;
-      each = λ i term found. All-contains (Fails s) (map (λ (c : Certificate). c.number) certificates) i fail ((members i).0 (ap is_some found));
+      each = λ i term found. All-contains (ReachesFalse s) (map (λ (c : Certificate). c.number) certificates) i fail ((members i).0 (ap is_some found));
     }
 
 -- Calls

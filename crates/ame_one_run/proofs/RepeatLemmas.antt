@@ -25,15 +25,15 @@ use Rattle.ame_sim.specs.Listed.{picked_as_listed}
 use Rattle.ame_sim.specs.Run.{IsPlayed}
 use Rattle.ame_sim.specs.Schedule.{IsScheduled}
 use Rattle.ame_sim.proofs.TextLemmas.{scheduled-same}
-use Rattle.ame_app.specs.declared.left.Extra.{Extra}
-use Rattle.ame_app.specs.declared.left.Left.{Left}
+use Rattle.ame_app.specs.declared.run_result.Extra.{Extra}
+use Rattle.ame_app.specs.declared.run_result.RunResult.{RunResult}
 use Rattle.ame_app.specs.declared.parts.Front.{Front}
 use Rattle.ame_app.specs.Answered.{IsPromised}
 use Rattle.ame_app.specs.Calls.{Call}
 use Rattle.ame_app.specs.Complete.{IsGivenBytes}
 use Rattle.ame_app.specs.Fragments.{fragments}
 use Rattle.ame_app.specs.Headline.{limits_of, Headline, ShowsTurns}
-use Rattle.ame_app.specs.Left.{end_in, extra_in}
+use Rattle.ame_app.specs.RunResult.{end_in, extra_in}
 use Rattle.ame_app.specs.Reported.{RunView, Reported}
 use Rattle.ame_app.specs.Texts.{IsProgramOf}
 use Rattle.ame_app.specs.Verbs.{options_of, Promises}
@@ -74,19 +74,19 @@ module _ (text : Text) (devices : ℕ) (one other : Accepted) (p : IsProgramOf t
 
 -- The picks of a run, as the report has them
 
-mades-are : (left : Left) (mades : List Made) → extra_in left ≡ Some (Extra.Picked mades) → mades_in left ≡ mades
-mades-are (Left.Engine end (Extra.Picked some)) mades is = cc
-mades-are (Left.Engine end Extra.Nothing) mades is = absurd (cc)
-mades-are (Left.Engine end (Extra.Resumed count)) mades is = absurd (cc)
-mades-are (Left.Weak weak) mades is = absurd (cc)
+mades-are : (left : RunResult) (mades : List Made) → extra_in left ≡ Some (Extra.Picked mades) → mades_in left ≡ mades
+mades-are (RunResult.Engine end (Extra.Picked some)) mades is = cc
+mades-are (RunResult.Engine end Extra.Nothing) mades is = absurd (cc)
+mades-are (RunResult.Engine end (Extra.Resumed count)) mades is = absurd (cc)
+mades-are (RunResult.Weak weak) mades is = absurd (cc)
 
 -- what a command by picks promises of its run
-record HasPlayed (code : FlatCode) (limits : Limits) (before : Ends) (left : Left) : Type 0 where
+record HasPlayed (code : FlatCode) (limits : Limits) (before : Ends) (left : RunResult) : Type 0 where
   mades : List Made
   extra_is : extra_in left ≡ Some (Extra.Picked mades)
   played : IsPlayed fragments (opening_of code limits before) mades (end_in left)
 
-picks-played : (command : Command) (front : Front) (code : FlatCode) (limits : Limits) (before : Ends) (left : Left) → IsByPicks command
+picks-played : (command : Command) (front : Front) (code : FlatCode) (limits : Limits) (before : Ends) (left : RunResult) → IsByPicks command
     → Promises command front code limits before left → HasPlayed code limits before left
 picks-played (Command.Sim seed options) front code limits before left picks own =
     record { mades = own.mades; extra_is = own.extra_is; played = own.played }

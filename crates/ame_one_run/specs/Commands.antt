@@ -6,7 +6,7 @@ use Rattle.ame_app.specs.declared.parts.Front.{Front}
 use Rattle.ame_app.specs.Verbs.{written_behind}
 use Rattle.ame_app.specs.Calls.{Call, Asks}
 use Rattle.ame_app.specs.Causes.{status_of}
-use Rattle.ame_app.specs.Left.{end_in}
+use Rattle.ame_app.specs.RunResult.{end_in}
 use Rattle.ame_app.specs.Reported.{RunView, Reported}
 use Rattle.ame_one_run.specs.OneRun.{IsOneRun}
 

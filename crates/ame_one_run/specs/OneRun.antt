@@ -17,7 +17,7 @@ use Rattle.ame_term.specs.declared.types.Effect.{Effect}
 use Rattle.ame_laws.specs.Rules.{Begins}
 use Rattle.ame_shell.specs.Ends.{Ends, told_at}
 use Rattle.ame_shell.specs.Heard.{and_more}
-use Rattle.ame_one_run.specs.Calls.{Asked, RunsAsking, heard_by}
+use Rattle.ame_one_run.specs.Calls.{DeviceCall, RunsAsking, heard_by}
 use Rattle.ame_one_run.specs.Reached.{IsBlockedIn, ComesToCallOf, GrowsTooHigh}
 
 -- the words are those of `run`: there are none, or `run` is the first one
@@ -64,7 +64,7 @@ pub record IsOneRun (text : Text) (devices : ℕ) (more : List ℕ) (before afte
   pub first : State
   pub begins : Begins source.tree first
   pub labels : List Label
-  pub calls : List Asked
+  pub calls : List DeviceCall
   pub last : State
   pub runs : RunsAsking first labels calls last
   pub rests : last.active ≡ None

@@ -13,7 +13,7 @@ use Rattle.ame_term.specs.declared.types.Unary.TheVariants as unary
 use Rattle.ame_laws.specs.Rules.{Becomes, Runs}
 
 -- member i becomes active and comes to a condition that is false
-pub record Fails (s : State) (i : ℕ) : Type 0 where
+pub record ReachesFalse (s : State) (i : ℕ) : Type 0 where
   pub kinds : List StepKind
   pub t : State
   pub runs : Runs s (Label.Activate i ∷ map Label.Step kinds) t
@@ -24,7 +24,7 @@ pub record Fails (s : State) (i : ℕ) : Type 0 where
 -- members are left, and each of them fails
 pub record IsBlockedIn (s : State) : Type 0 where
   pub left : s.members ≢ []
-  pub each : (i : ℕ) (term : Tree) → lookup (is_at (nat_cmp i)) s.members ≡ Some term → Fails s i
+  pub each : (i : ℕ) (term : Tree) → lookup (is_at (nat_cmp i)) s.members ≡ Some term → ReachesFalse s i
 
 -- a member comes to a call of the device, by steps under `unprotected` that its term alone determines
 pub record ComesToCallOf (s : State) (device : ℕ) : Type 0 where

@@ -1,10 +1,10 @@
 -- Runs by picks that are made again.
 use Rattle.std.specs.Prelude.{◌≡◌, false, List, ⊤}
 use Rattle.ame_cli.specs.declared.command.Command.{Command}
-use Rattle.ame_cli.specs.Items.{Word}
+use Rattle.ame_cli.specs.Items.{ArgWord}
 use Rattle.ame_cli.specs.Grammar.{SpellsCommand}
 use Rattle.ame_app.specs.Calls.{Call}
-use Rattle.ame_app.specs.Left.{end_in}
+use Rattle.ame_app.specs.RunResult.{end_in}
 use Rattle.ame_app.specs.Reported.{RunView, Reported}
 use Rattle.ame_app.specs.Verbs.Sim.{mades_in, seats_picked}
 use Rattle.ame_repeats.specs.Answers.{AreAnsweredAlike, is_fault}
@@ -17,7 +17,7 @@ IsByPicks (Command.Replay options) = ⊤
 IsByPicks _ = ⊥
 
 -- words are those of `sim` or `replay`
-pub record AskForPicks (words : List Word) : Type 0 where
+pub record AskForPicks (words : List ArgWord) : Type 0 where
   pub command : Command
   pub spelled : SpellsCommand words command
   pub by_picks : IsByPicks command

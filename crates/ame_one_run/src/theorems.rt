@@ -13,7 +13,7 @@ ghost use Rattle.ame_app.specs.Calls.{Call};
 ghost use Rattle.ame_app.specs.Reported.{Reported};
 ghost use Rattle.ame_app.specs.Answered.{IsPromised};
 ghost use Rattle.ame_app.specs.Headline.{journal_of};
-ghost use Rattle.ame_app.specs.Left.{end_in};
+ghost use Rattle.ame_app.specs.RunResult.{end_in};
 ghost use Rattle.ame_app.specs.Verbs.Sim.{seats_picked};
 ghost use Rattle.ame_sim.specs.Schedule.{IsScheduled};
 ghost use Rattle.ame_certified.specs.RoundTrip.{IsRoundTrip};

@@ -6,7 +6,7 @@ ghost use Rattle.ame_drawing.specs.Moments.{entry_in};
 ghost use Rattle.ame_picture.specs.Hidden.{HasHidden};
 
 use crate::constants::COURSE_KEYS;
-use crate::layout::{Layout, Spot, left_of, middle_of, top_of};
+use crate::layout::{Layout, PagePoint, left_of, middle_of, top_of};
 use crate::svg::Svg;
 use crate::words::{kind_class, kind_words};
 use ame_drawing::{Done, LAST_LANE, Moment, Stamp, birth, lane_up_to, lanes_up_to};
@@ -71,8 +71,8 @@ fn draw_lives(
             continue;
         };
         let x = middle_of(spot.pick);
-        let at = Spot(x, top_of(spot.seat) + 30);
-        let to = Spot(x, top_of(lane) + 33);
+        let at = PagePoint(x, top_of(spot.seat) + 30);
+        let to = PagePoint(x, top_of(lane) + 33);
         svg.floor(layout, lane, spot.pick)?;
         svg.member_line(u64::from(lane), "on", at, to)?;
     }
@@ -111,7 +111,7 @@ fn draw_boxes(svg: &mut Svg, moments: &[Moment]) -> Result<(), NoMemory>
     for (index, moment) in moments.iter().enumerate() {
         svg.begin_group(moment.fragment())?;
         svg.moment_title(moment)?;
-        let at = Spot(
+        let at = PagePoint(
             left_of(index as u32) + 1,
             top_of(lane_up_to(LAST_LANE, moment.fragment())),
         );

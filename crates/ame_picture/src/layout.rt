@@ -4,7 +4,7 @@ ghost use Rattle.std.specs.Prelude.{◌<◌, ◌^◌};
 
 /// A point: how far from the left edge, and from the upper one.
 #[derive(Clone, Copy)]
-pub(crate) struct Spot(pub u64, pub u64);
+pub(crate) struct PagePoint(pub u64, pub u64);
 
 /// The numbers of lanes of a picture, of seats or fragments and of locations, and of columns.
 #[derive(Clone, Copy)]

@@ -1,6 +1,6 @@
 //! The marks of what a run did.
 
-use crate::layout::{Layout, Spot, left_of, middle_of, top_of};
+use crate::layout::{Layout, PagePoint, left_of, middle_of, top_of};
 use crate::svg::Svg;
 use crate::words::{
     arrow_class, fate_class, fate_words, kind_class, outcome_class, outcome_words, sign_class,
@@ -22,9 +22,9 @@ impl Svg {
             self.page,
             "<title>task {member}, picks {from} to {to}: {became}</title>"
         )?;
-        self.rect(fate_class(attempt.fate), Spot(x + 1, y), width, 30)?;
-        self.rect("field", Spot(x + 3, y + 3), 17, 13)?;
-        let number = Spot(x + 5, y + 13);
+        self.rect(fate_class(attempt.fate), PagePoint(x + 1, y), width, 30)?;
+        self.rect("field", PagePoint(x + 3, y + 3), 17, 13)?;
+        let number = PagePoint(x + 5, y + 13);
         self.label("number", number, "", member)?;
         self.end_group()
     }
@@ -35,7 +35,7 @@ impl Svg {
             return Ok(());
         };
         let class = sign_class(pick.did);
-        let at = Spot(middle_of(column), top_of(pick.seat) + 27);
+        let at = PagePoint(middle_of(column), top_of(pick.seat) + 27);
         self.begin_group(pick.member)?;
         match pick.place {
             None => self.words(class, at, word.as_bytes())?,
@@ -54,16 +54,16 @@ impl Svg {
         let member = stamp.member;
         let x = middle_of(stamp.pick);
         let y = layout.journal_top();
-        let tied = Spot(x, top_of(stamp.seat) + 30);
-        let corner = Spot(left_of(stamp.pick) + 2, y);
+        let tied = PagePoint(x, top_of(stamp.seat) + 30);
+        let corner = PagePoint(left_of(stamp.pick) + 2, y);
         self.begin_group(member)?;
         write!(self.page, "<title>entry {number}: ")?;
         self.page.add(stamp.kind.word())?;
         writeln!(self.page, ", task {member}</title>")?;
-        self.line("tie", tied, Spot(x, y))?;
+        self.line("tie", tied, PagePoint(x, y))?;
         self.rect(kind_class(stamp.kind), corner, 18, 20)?;
-        self.label("entry", Spot(x, y + 14), "", member)?;
-        self.label("below", Spot(x, y + 31), "", number)?;
+        self.label("entry", PagePoint(x, y + 14), "", member)?;
+        self.label("below", PagePoint(x, y + 31), "", number)?;
         self.end_group()
     }
 
@@ -77,7 +77,7 @@ impl Svg {
         if printed.is_empty() {
             return Ok(());
         }
-        let at = Spot(middle_of(column), layout.journal_top() + 46);
+        let at = PagePoint(middle_of(column), layout.journal_top() + 46);
         self.begin_words("print", at)?;
         for integer in printed {
             self.page.add_labelled(b" ", *integer)?;
@@ -89,7 +89,7 @@ impl Svg {
     pub(crate) fn span(&mut self, layout: Layout, span: &Span) -> Result<(), NoMemory> {
         let (place, member, from, to) = (span.place, span.member, span.from, span.to);
         let became = outcome_words(span.outcome);
-        let at = Spot(middle_of(from), layout.place_top(place));
+        let at = PagePoint(middle_of(from), layout.place_top(place));
         let width = 22 * u64::from(to.saturating_sub(from));
         self.begin_group(member)?;
         writeln!(
@@ -102,11 +102,11 @@ impl Svg {
 
     /// Draws an arrow from the right edge of a box to the left edge of another, so far below their upper edges.
     pub(crate) fn edge(&mut self, below: u8, arrow: &Arrow) -> Result<(), NoMemory> {
-        let at = Spot(
+        let at = PagePoint(
             left_of(arrow.from) + 21,
             top_of(arrow.from_seat) + u64::from(below),
         );
-        let to = Spot(
+        let to = PagePoint(
             left_of(arrow.to) + 1,
             top_of(arrow.to_seat) + u64::from(below),
         );
@@ -115,8 +115,8 @@ impl Svg {
 
     /// Draws an arrow from the middle of a pick to that of another.
     pub(crate) fn obstacle(&mut self, arrow: &Arrow) -> Result<(), NoMemory> {
-        let at = Spot(middle_of(arrow.from), top_of(arrow.from_seat) + 17);
-        let to = Spot(middle_of(arrow.to), top_of(arrow.to_seat) + 17);
+        let at = PagePoint(middle_of(arrow.from), top_of(arrow.from_seat) + 17);
+        let to = PagePoint(middle_of(arrow.to), top_of(arrow.to_seat) + 17);
         self.member_line(arrow.member, arrow_class(arrow.kind), at, to)
     }
 
@@ -134,8 +134,8 @@ impl Svg {
             return Ok(());
         }
         let x = middle_of(column);
-        let at = Spot(x, top_of(pick.seat) + 31);
-        let to = Spot(x, layout.place_top(place));
+        let at = PagePoint(x, top_of(pick.seat) + 31);
+        let to = PagePoint(x, layout.place_top(place));
         self.member_line(pick.member, "stale", at, to)
     }
 }

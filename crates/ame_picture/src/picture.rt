@@ -4,7 +4,7 @@ ghost use Rattle.std.specs.Prelude.{◌<◌, ◌^◌, IfOk, codes, length};
 ghost use Rattle.ame_picture.specs.Hidden.{HasHidden};
 
 use crate::constants::KEYS;
-use crate::layout::{Layout, Spot};
+use crate::layout::{Layout, PagePoint};
 use crate::svg::Svg;
 use ame_drawing::{ArrowKind, Drawing, Stamp};
 use ame_term::NoMemory;
@@ -62,7 +62,7 @@ fn draw_lanes(svg: &mut Svg, layout: Layout) -> Result<(), NoMemory> {
     }
     for place in 0..layout.places {
         let y = layout.place_top(place) + 10;
-        svg.label("place", Spot(24, y), "@", u64::from(place))?;
+        svg.label("place", PagePoint(24, y), "@", u64::from(place))?;
     }
     Ok(())
 }

@@ -4,7 +4,7 @@ ghost use Rattle.std.specs.Prelude.{◌≡◌, ◌++◌, IfOk, OnOk, codes};
 ghost use Rattle.ame_picture.specs.Hidden.{hidden};
 
 use crate::constants::{BOX_KEYS, HATCHINGS, HIDDEN, HIDDEN_END, STYLES};
-use crate::layout::{Layout, Spot, left_of, top_of};
+use crate::layout::{Layout, PagePoint, left_of, top_of};
 use ame_page::Page;
 use ame_term::NoMemory;
 use std::alloc::Global;
@@ -34,8 +34,8 @@ impl Svg {
         )?;
         svg.page.add(STYLES)?;
         svg.page.add(HATCHINGS)?;
-        svg.words("title", Spot(96, 22), title)?;
-        svg.words("told", Spot(96, 40), verdict)?;
+        svg.words("title", PagePoint(96, 22), title)?;
+        svg.words("told", PagePoint(96, 40), verdict)?;
         svg.ticks(layout)?;
         Ok(svg)
     }
@@ -44,8 +44,8 @@ impl Svg {
         let y = layout.journal_top();
         for five in 0..layout.columns / 5 + 1 {
             let x = left_of(5 * five);
-            self.label("tick", Spot(x + 2, 62), "", u64::from(5 * five))?;
-            self.line("grid", Spot(x, 66), Spot(x, y))?;
+            self.label("tick", PagePoint(x + 2, 62), "", u64::from(5 * five))?;
+            self.line("grid", PagePoint(x, 66), PagePoint(x, y))?;
         }
         Ok(())
     }
@@ -54,7 +54,7 @@ impl Svg {
     pub(crate) fn legend(&mut self, layout: Layout, keys: &[u8]) -> Result<(), NoMemory> {
         let top = layout.journal_top();
         let y = top + 62;
-        self.words("lane", Spot(10, top + 14), b"journal")?;
+        self.words("lane", PagePoint(10, top + 14), b"journal")?;
         writeln!(
             self.page,
             "<g class=\"key\" transform=\"translate(96,{y})\">"
@@ -98,20 +98,25 @@ impl Svg {
     pub(crate) fn rect(
         &mut self,
         class: &str,
-        at: Spot,
+        at: PagePoint,
         width: u64,
         height: u64,
     ) -> Result<(), NoMemory> {
-        let Spot(x, y) = at;
+        let PagePoint(x, y) = at;
         writeln!(
             self.page,
             "<rect class=\"{class}\" x=\"{x}\" y=\"{y}\" width=\"{width}\" height=\"{height}\" rx=\"3\"/>"
         )
     }
 
-    pub(crate) fn line(&mut self, class: &str, at: Spot, to: Spot) -> Result<(), NoMemory> {
-        let Spot(x, y) = at;
-        let Spot(x2, y2) = to;
+    pub(crate) fn line(
+        &mut self,
+        class: &str,
+        at: PagePoint,
+        to: PagePoint,
+    ) -> Result<(), NoMemory> {
+        let PagePoint(x, y) = at;
+        let PagePoint(x2, y2) = to;
         writeln!(
             self.page,
             "<line class=\"{class}\" x1=\"{x}\" y1=\"{y}\" x2=\"{x2}\" y2=\"{y2}\"/>"
@@ -123,8 +128,8 @@ impl Svg {
         &mut self,
         member: u64,
         class: &str,
-        at: Spot,
-        to: Spot,
+        at: PagePoint,
+        to: PagePoint,
     ) -> Result<(), NoMemory> {
         self.begin_group(member)?;
         self.line(class, at, to)?;
@@ -132,8 +137,8 @@ impl Svg {
     }
 
     /// Begins words at a place.
-    pub(crate) fn begin_words(&mut self, class: &str, at: Spot) -> Result<(), NoMemory> {
-        let Spot(x, y) = at;
+    pub(crate) fn begin_words(&mut self, class: &str, at: PagePoint) -> Result<(), NoMemory> {
+        let PagePoint(x, y) = at;
         write!(self.page, "<text class=\"{class}\" x=\"{x}\" y=\"{y}\">")
     }
 
@@ -142,7 +147,12 @@ impl Svg {
     }
 
     /// Writes words at a place. Nothing in them is read as a mark.
-    pub(crate) fn words(&mut self, class: &str, at: Spot, words: &[u8]) -> Result<(), NoMemory> {
+    pub(crate) fn words(
+        &mut self,
+        class: &str,
+        at: PagePoint,
+        words: &[u8],
+    ) -> Result<(), NoMemory> {
         self.begin_words(class, at)?;
         self.page.add_escaped(words)?;
         self.end_words()
@@ -152,7 +162,7 @@ impl Svg {
     pub(crate) fn label(
         &mut self,
         class: &str,
-        at: Spot,
+        at: PagePoint,
         word: &str,
         number: u64,
     ) -> Result<(), NoMemory> {
@@ -163,13 +173,13 @@ impl Svg {
 
     /// Writes the name of a lane.
     pub(crate) fn lane_name(&mut self, word: &str, lane: u32) -> Result<(), NoMemory> {
-        let at = Spot(10, top_of(lane) + 20);
+        let at = PagePoint(10, top_of(lane) + 20);
         self.label("lane", at, word, u64::from(lane))
     }
 
     /// Draws the floor of a lane, from a column on to the last.
     pub(crate) fn floor(&mut self, layout: Layout, lane: u32, column: u32) -> Result<(), NoMemory> {
-        let at = Spot(left_of(column), top_of(lane) + 33);
+        let at = PagePoint(left_of(column), top_of(lane) + 33);
         let count = layout.columns.saturating_sub(column);
         self.rect("floor", at, 22 * u64::from(count), 1)
     }

@@ -1,6 +1,6 @@
 -- The counts after an edit of the list.
 use Rattle.std.proofs.Common.{◌≡◌, ◌+◌, ◌&&◌, ℕ, true, List, [], ◌∷◌, length, Some, refl, ap, arith}
-use Rattle.ame_pool.proofs.Words.{Member, Standing, Counts, is_ready, is_busy, is_parked, find, altered, placed, except, is_busy_protected, is_busy_exhausted, counted, CountsIn, AreCounted, count_by}
+use Rattle.ame_pool.proofs.Words.{Member, MemberStanding, Counts, is_ready, is_busy, is_parked, find, altered, placed, except, is_busy_protected, is_busy_exhausted, counted, CountsIn, AreCounted, count_by}
 use Rattle.ame_pool.proofs.MemberLemmas.{count_cons, count_altered, count_placed, count_except, standing_is}
 
 module _ {M : Type 0} where
@@ -13,7 +13,7 @@ module _ {M : Type 0} where
   -- a ready member is in no count
   pub ready_counted : (m : Member M) → is_ready m ≡ true → (c : Counts) → c ≡ counted m c
   ready_counted m e c =
-      let ready : m.standing ≡ Standing.Ready = grind (arith, standing_is m.standing, e) in
+      let ready : m.standing ≡ MemberStanding.Ready = grind (arith, standing_is m.standing, e) in
       let z : (k : ℕ) → k + 0 ≡ k = λ k. omega arith in
       rw (ready, z c.busy, z c.protected, z c.exhausted, z c.parked) refl
 

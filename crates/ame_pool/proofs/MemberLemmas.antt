@@ -2,7 +2,7 @@
 use Rattle.std.proofs.Common.{◌≡◌, ◌<◌, ◌≤◌, ◌+◌, ◌==◌, ℕ, Bool, true, false, cond, List, [], ◌∷◌, length, map, Option, Some, None, option_map, refl, sym, ap, subst, ◌∙◌, inl, inr, arith}
 use Rattle.std.specs.List.{All}
 use Rattle.std.proofs.lemmas.Option.{same_Some}
-use Rattle.ame_pool.proofs.Words.{Member, IsRising, find, altered, placed, except, IsFoundAfter, count_by, nat_tests, sum_by-cons, All-nil, All-cons, All-head, All-tail, All-weaker, cases_eq, cond_both, nat_lt, Standing, Watch}
+use Rattle.ame_pool.proofs.Words.{Member, IsRising, find, altered, placed, except, IsFoundAfter, count_by, nat_tests, sum_by-cons, All-nil, All-cons, All-head, All-tail, All-weaker, cases_eq, cond_both, nat_lt, MemberStanding, Watch}
 use Rattle.std.specs.Prelude.{◌⊎◌}
 
 -- cases for a search
@@ -10,11 +10,11 @@ pub which : {X : Type 0} (o : Option X) → (o ≡ None) ⊎ ((x : X) × (o ≡ 
 which None = inl refl
 which (Some x) = inr (x, refl)
 
-pub standing_is : (s : Standing) → (s ≡ Standing.Ready) ⊎ (s ≡ Standing.Busy None) ⊎ ((w : Watch) × (s ≡ Standing.Busy (Some w))) ⊎ ((locs : List ℕ) × (s ≡ Standing.Parked locs))
-standing_is Standing.Ready = inl refl
-standing_is (Standing.Busy None) = inr (inl refl)
-standing_is (Standing.Busy (Some w)) = inr (inr (inl (w, refl)))
-standing_is (Standing.Parked locs) = inr (inr (inr (locs, refl)))
+pub standing_is : (s : MemberStanding) → (s ≡ MemberStanding.Ready) ⊎ (s ≡ MemberStanding.Busy None) ⊎ ((w : Watch) × (s ≡ MemberStanding.Busy (Some w))) ⊎ ((locs : List ℕ) × (s ≡ MemberStanding.Parked locs))
+standing_is MemberStanding.Ready = inl refl
+standing_is (MemberStanding.Busy None) = inr (inl refl)
+standing_is (MemberStanding.Busy (Some w)) = inr (inr (inl (w, refl)))
+standing_is (MemberStanding.Parked locs) = inr (inr (inr (locs, refl)))
 
 pub count_cons : {X : Type 0} (p : X → Bool) (x : X) (xs : List X) → count_by p (x ∷ xs) ≡ cond (p x) 1 0 + count_by p xs
 count_cons p x xs = sum_by-cons (λ y. cond (p y) 1 0) x xs

@@ -1,6 +1,6 @@
 -- The order of the ready members, and of those inside, after an edit of the list.
 use Rattle.std.proofs.Common.{◌≡◌, ◌≢◌, ◌<◌, ◌≤◌, ◌+◌, ◌==◌, ◌&&◌, ℕ, Bool, true, false, cond, List, [], ◌∷◌, ◌++◌, length, Option, Some, None, IsSomeAnd, IsTrue, refl, sym, ap, subst, ◌∙◌, inl, inr, arith}
-use Rattle.ame_pool.proofs.Words.{cases_Bool, Member, Standing, IsRising, IsFoundAfter, is_ready, find, altered, placed, except, skipping, front, IsOrderOf, AreInOrder, is_inside_at, count_by, filter, nat_tests, cases_eq, length-append, append-nil, filter_agree, filter-append, sum_by_push, count_by-le-length}
+use Rattle.ame_pool.proofs.Words.{cases_Bool, Member, MemberStanding, IsRising, IsFoundAfter, is_ready, find, altered, placed, except, skipping, front, IsOrderOf, AreInOrder, is_inside_at, count_by, filter, nat_tests, cases_eq, length-append, append-nil, filter_agree, filter-append, sum_by_push, count_by-le-length}
 use Rattle.ame_pool.proofs.MemberLemmas.{count_cons, count_all, none_above, find_number, count_altered, length_altered, count_placed, count_except}
 
 module _ {M : Type 0} where
@@ -110,7 +110,7 @@ module _ {M : Type 0} where
     -- a member that isn't ready leaves a place in the order
     pub order_shorter : (n : ℕ) (m : Member M) → find n ms ≡ Some m → is_ready m ≡ false → length order < length ms
     order_shorter n m found was =
-        let f : Member M → Member M = λ m. record m { standing = Standing.Ready } in
+        let f : Member M → Member M = λ m. record m { standing = MemberStanding.Ready } in
         let longer = ordered_readied n f (λ _. refl) m found was refl in
         let short = order_short (altered n f ms) (order ++ n ∷ []) longer in
         omega (arith, short, length_altered n f ms, length-append order (n ∷ []))

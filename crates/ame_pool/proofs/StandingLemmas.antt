@@ -1,23 +1,23 @@
 -- The facts of a member's standing, and the standing after a turn.
 use Rattle.std.proofs.Common.{◌≡◌, ◌≤◌, ℕ, Bool, true, false, refl, arith}
-use Rattle.ame_pool.proofs.Words.{Member, Standing, Transition, is_ready, is_busy, rolled, settled, is_touched, stirred, is_waiting_for, untouched, is_away, after_transition, is_readied}
+use Rattle.ame_pool.proofs.Words.{Member, MemberStanding, Transition, is_ready, is_busy, rolled, settled, is_touched, stirred, is_waiting_for, untouched, is_away, after_transition, is_readied}
 use Rattle.ame_pool.proofs.MemberLemmas.{standing_is}
 
-abbrev ready : Standing → Bool
-ready s = elim s [ Standing.Ready ↦ true | Standing.Busy _ ↦ false | Standing.Parked _ ↦ false ]
+abbrev ready : MemberStanding → Bool
+ready s = elim s [ MemberStanding.Ready ↦ true | MemberStanding.Busy _ ↦ false | MemberStanding.Parked _ ↦ false ]
 
 -- eight rollbacks are the most
 rolled_le : (b : Bool) (r : ℕ) → r ≤ 8 → rolled b r ≤ 8
 rolled_le b r h = elim b as (λ v. rolled v r ≤ 8) [ true ↦ omega arith | false ↦ h ]
 
 -- ---- a turn of one that isn't ready
-settled_ready : (s : Standing) → ready s ≡ false → ready (settled s) ≡ is_touched s
+settled_ready : (s : MemberStanding) → ready s ≡ false → ready (settled s) ≡ is_touched s
 settled_ready s h = grind (arith, standing_is s, h)
 
-stirred_ready : (l : ℕ) (s : Standing) → ready s ≡ false → ready (stirred l s) ≡ is_waiting_for l s
+stirred_ready : (l : ℕ) (s : MemberStanding) → ready s ≡ false → ready (stirred l s) ≡ is_waiting_for l s
 stirred_ready l s h = grind (arith, standing_is s, h)
 
-pub settled_untouched : (s : Standing) → untouched (settled s) ≡ untouched s
+pub settled_untouched : (s : MemberStanding) → untouched (settled s) ≡ untouched s
 settled_untouched s = grind (arith, standing_is s)
 
 module _ {M : Type 0} where

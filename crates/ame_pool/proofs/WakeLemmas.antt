@@ -1,13 +1,13 @@
 -- The changes that a write to a location makes.
 use Rattle.std.proofs.Common.{◌==◌, ◌≡◌, ◌<◌, ◌≤◌, ℕ, Bool, true, false, cond, List, [], ◌∷◌, ◌++◌, map, Option, Some, None, IsSomeAnd, IsTrue, refl, sym, ap, ◌∙◌, arith}
 use Rattle.std.specs.List.{All}
-use Rattle.ame_pool.proofs.Words.{cases_Bool, Member, Standing, Watch, IsRising, find, altered, untouched, lists, waits_for, has, touched_by, stirred, stirred_by, is_waiting_for, is_woken_by, woken_by, Roster, IsAt, woken, is_watching, is_woken_at, stirred_at, IsWatched, false≢true, count_by, BTreeSet, nat_tests, append-nil, append_assoc, All-head, All-tail}
+use Rattle.ame_pool.proofs.Words.{cases_Bool, Member, MemberStanding, Watch, IsRising, find, altered, untouched, lists, waits_for, has, touched_by, stirred, stirred_by, is_waiting_for, is_woken_by, woken_by, Roster, IsAt, woken, is_watching, is_woken_at, stirred_at, IsWatched, false≢true, count_by, BTreeSet, nat_tests, append-nil, append_assoc, All-head, All-tail}
 use Rattle.ame_pool.proofs.KeptLemmas.{IsOpen, opened}
 use Rattle.ame_pool.proofs.MemberLemmas.{count_altered, find_number, find_passes, all_found, standing_is}
 
 module _ (l : ℕ) where
   -- ---- a standing and a write
-  not_waiting : (s : Standing) → has l (untouched s) ≡ false → is_waiting_for l s ≡ false
+  not_waiting : (s : MemberStanding) → has l (untouched s) ≡ false → is_waiting_for l s ≡ false
   not_waiting s e = grind (arith, standing_is s, e)
 
   watch_once : (w : Watch) (b : Bool) → w.touched ≡ b → has l (cond b [] w.locs) ≡ false → touched_by l w ≡ w
@@ -16,16 +16,16 @@ module _ (l : ℕ) where
       elim (has l w.locs) as (λ b. cond b (record w { touched = true }) w ≡ w) [ true ↦ same | false ↦ refl ]
   watch_once w false t e = rw e refl
 
-  stirred_once : (s : Standing) → has l (untouched s) ≡ false → stirred l s ≡ s
-  stirred_once Standing.Ready e = refl
-  stirred_once (Standing.Busy None) e = refl
-  stirred_once (Standing.Busy (Some w)) e = ap (λ (q : Watch). Standing.Busy (Some q)) (watch_once w w.touched refl e)
-  stirred_once (Standing.Parked locs) e = rw e refl
+  stirred_once : (s : MemberStanding) → has l (untouched s) ≡ false → stirred l s ≡ s
+  stirred_once MemberStanding.Ready e = refl
+  stirred_once (MemberStanding.Busy None) e = refl
+  stirred_once (MemberStanding.Busy (Some w)) e = ap (λ (q : Watch). MemberStanding.Busy (Some q)) (watch_once w w.touched refl e)
+  stirred_once (MemberStanding.Parked locs) e = rw e refl
 
-  pub stirred_clears : (s : Standing) → has l (untouched s) ≡ true → untouched (stirred l s) ≡ []
+  pub stirred_clears : (s : MemberStanding) → has l (untouched s) ≡ true → untouched (stirred l s) ≡ []
   stirred_clears s e = grind (arith, standing_is s, e)
 
-  stirred_twice : (s : Standing) → has l (untouched s) ≡ true → stirred l (stirred l s) ≡ stirred l s
+  stirred_twice : (s : MemberStanding) → has l (untouched s) ≡ true → stirred l (stirred l s) ≡ stirred l s
   stirred_twice s e = stirred_once (stirred l s) (ap (has l) (stirred_clears s e))
 
 module _ {M : Type 0} (l : ℕ) where
@@ -34,7 +34,7 @@ module _ {M : Type 0} (l : ℕ) where
       → map (stirred_by l) (altered n (stirred_by l) ms) ≡ map (stirred_by l) ms
   map_altered n [] m found watched = refl
   map_altered n (o ∷ ms) m found watched =
-      let twice : stirred_by l (stirred_by l m) ≡ stirred_by l m = ap (λ (s : Standing). let x : Member M = record m { standing = s } in x) (stirred_twice l m.standing watched) in
+      let twice : stirred_by l (stirred_by l m) ≡ stirred_by l m = ap (λ (s : MemberStanding). let x : Member M = record m { standing = s } in x) (stirred_twice l m.standing watched) in
       grind (arith, nat_tests, found, twice, map_altered n ms m)
 
   woken_cons : (m : Member M) (ms : List (Member M)) → woken_by l (m ∷ ms) ≡ cond (is_woken_by l m) (m.number ∷ []) [] ++ woken_by l ms
@@ -68,7 +68,7 @@ module _ {M : Type 0} (l : ℕ) where
   calm_all [] h = (refl, refl)
   calm_all (m ∷ ms) h =
       let calm = All-head (λ (m : Member M). is_watching l m ≡ false) m ms h in
-      let same : stirred_by l m ≡ m = ap (λ (s : Standing). let x : Member M = record m { standing = s } in x) (stirred_once l m.standing calm) in
+      let same : stirred_by l m ≡ m = ap (λ (s : MemberStanding). let x : Member M = record m { standing = s } in x) (stirred_once l m.standing calm) in
       let rest = calm_all ms (All-tail (λ (m : Member M). is_watching l m ≡ false) m ms h) in
       (ap (λ q. q ∷ map (stirred_by l) ms) same ∙ ap (λ q. m ∷ q) rest.0, rw (not_waiting l m.standing calm) rest.1)
 

@@ -5,7 +5,7 @@ pub use Rattle.ame_pool.specs.Counts.{AreCounted, CountsIn, IsRecounted, counted
 pub use Rattle.ame_pool.specs.Found.{IsFoundAfter}
 pub use Rattle.ame_pool.specs.Index.{IsBetween, IsListedAfter, among, lists, pair_cmp, untouched, waits_for}
 pub use Rattle.ame_pool.specs.Keeps.{IsKept, IsOrderOf, AreInOrder, IsWatched, is_inside_at}
-pub use Rattle.ame_pool.specs.Queue.{IsPlaceOf, Row, StartsFull, is_gap, is_of, numbers_in}
+pub use Rattle.ame_pool.specs.Queue.{IsPlaceOf, QueueView, StartsFull, is_gap, is_of, numbers_in}
 pub use Rattle.ame_pool.specs.Members.{IsRising, altered, except, find, is_busy, is_parked, is_ready, placed}
 pub use Rattle.ame_pool.specs.Numbered.{AreNumberedSlots, AreRising, IsEntryGap, IsEntryOf, IsSlotOf, behind, filed, key_of, members_at, only}
 pub use Rattle.ame_pool.specs.Queues.{HasPlace, Queues, front, pushed, taken}
@@ -16,9 +16,9 @@ pub use Rattle.ame_pool.specs.Stirs.{is_watching, is_woken_at, stirred_at}
 pub use Rattle.ame_pool.specs.Turns.{is_away, is_readied, is_readied_at, after_transition, turned_at}
 pub use Rattle.ame_pool.specs.Waking.{has, is_waiting_for, is_woken_by, stirred, stirred_by, touched_by, woken_by}
 pub use Rattle.ame_pool.specs.declared.counts.Counts.{Counts}
-pub use Rattle.ame_pool.specs.declared.queue.Entry.{Entry}
+pub use Rattle.ame_pool.specs.declared.queue.QueueEntry.{QueueEntry}
 pub use Rattle.ame_pool.specs.declared.member.Member.{Member}
-pub use Rattle.ame_pool.specs.declared.member.Standing.{Standing}
+pub use Rattle.ame_pool.specs.declared.member.MemberStanding.{MemberStanding}
 pub use Rattle.ame_pool.specs.declared.member.Watch.{Watch}
 pub use Rattle.ame_pool.specs.declared.numbers.Numbered.{Numbered}
 pub use Rattle.ame_pool.specs.declared.oldest.Oldest.{Oldest}

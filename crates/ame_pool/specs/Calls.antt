@@ -1,7 +1,7 @@
 -- The pool that each call leaves.
 use Rattle.std.specs.Prelude.{ℕ, ◌-◌, ◌==◌, Bool, false, cond, List, [], ◌∷◌, ◌++◌, map, Option, Some, None, is_some, is_none, option_map, IsSomeAnd, IsTrue, max}
 use Rattle.ame_pool.specs.declared.member.Member.{Member}
-use Rattle.ame_pool.specs.declared.member.Standing.{Standing}
+use Rattle.ame_pool.specs.declared.member.MemberStanding.{MemberStanding}
 use Rattle.ame_pool.specs.Members.{find, altered, placed, except}
 use Rattle.ame_pool.specs.Standings.{rolled, settled, is_touched}
 use Rattle.ame_pool.specs.Waking.{stirred_by, woken_by}
@@ -16,23 +16,23 @@ module _ {M : Type 0} where
   -- ---- one member
   -- a member that comes in
   abbrev pub newcomer : ℕ → M → Bool → Member M
-  newcomer n m i = record { number = n; machine = m; inside = i; rollbacks = 0; standing = Standing.Ready }
+  newcomer n m i = record { number = n; machine = m; inside = i; rollbacks = 0; standing = MemberStanding.Ready }
 
   -- run by a seat
   abbrev pub begun : Member M → Member M
-  begun m = record m { standing = Standing.Busy None }
+  begun m = record m { standing = MemberStanding.Busy None }
 
   -- ready again
   abbrev pub at_home : Bool → Member M → Member M
-  at_home rolled_back m = record m { rollbacks = rolled rolled_back m.rollbacks; standing = Standing.Ready }
+  at_home rolled_back m = record m { rollbacks = rolled rolled_back m.rollbacks; standing = MemberStanding.Ready }
 
   -- ready with another machine
   abbrev pub renewed : M → Bool → Member M → Member M
-  renewed machine inside m = record { number = m.number; machine = machine; inside = inside; rollbacks = 0; standing = Standing.Ready }
+  renewed machine inside m = record { number = m.number; machine = machine; inside = inside; rollbacks = 0; standing = MemberStanding.Ready }
 
   -- noted as stuck on these locations, untouched since
   abbrev pub noted_on : List ℕ → Member M → Member M
-  noted_on locs m = record m { rollbacks = 0; standing = Standing.Busy (Some (record { locs = locs; touched = false })) }
+  noted_on locs m = record m { rollbacks = 0; standing = MemberStanding.Busy (Some (record { locs = locs; touched = false })) }
 
   -- parked, or ready if its watch was touched
   abbrev pub at_rest : Member M → Member M
@@ -45,11 +45,11 @@ module _ {M : Type 0} where
 
   -- busy without a watch list
   abbrev pub is_running : Member M → Bool
-  is_running m = elim m.standing [ Standing.Ready ↦ false | Standing.Busy w ↦ is_none w | Standing.Parked _ ↦ false ]
+  is_running m = elim m.standing [ MemberStanding.Ready ↦ false | MemberStanding.Busy w ↦ is_none w | MemberStanding.Parked _ ↦ false ]
 
   -- busy with a watch list
   abbrev pub is_noted : Member M → Bool
-  is_noted m = elim m.standing [ Standing.Ready ↦ false | Standing.Busy w ↦ is_some w | Standing.Parked _ ↦ false ]
+  is_noted m = elim m.standing [ MemberStanding.Ready ↦ false | MemberStanding.Busy w ↦ is_some w | MemberStanding.Parked _ ↦ false ]
 
   -- ---- answers
   abbrev pub machine_of : ℕ → Roster M → Option M

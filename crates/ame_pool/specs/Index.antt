@@ -5,7 +5,7 @@ use Rattle.std.specs.BTreeSet.{contains}
 use Rattle.std.specs.List.{list_any}
 use Rattle.ame_term.specs.declared.types.Loc.{Loc}
 use Rattle.ame_pool.specs.declared.member.Member.{Member}
-use Rattle.ame_pool.specs.declared.member.Standing.{Standing}
+use Rattle.ame_pool.specs.declared.member.MemberStanding.{MemberStanding}
 use Rattle.ame_pool.specs.Members.{find}
 use Rattle.ame_pool.specs.Waking.{has}
 use Rattle.std.specs.declared.cmp.Ordering.{Ordering}
@@ -35,11 +35,11 @@ pub record IsBetween (number : ℕ) (locs : List Loc) (old new : BTreeSet (ℕ �
   pub others : (k n : ℕ) → n ≢ number → lists new k n ≡ lists old k n
 
 -- the locations whose write changes a standing: a list that isn't touched yet
-abbrev pub untouched : Standing → List ℕ
-untouched Standing.Ready = []
-untouched (Standing.Busy None) = []
-untouched (Standing.Busy (Some w)) = cond w.touched [] w.locs
-untouched (Standing.Parked locs) = locs
+abbrev pub untouched : MemberStanding → List ℕ
+untouched MemberStanding.Ready = []
+untouched (MemberStanding.Busy None) = []
+untouched (MemberStanding.Busy (Some w)) = cond w.touched [] w.locs
+untouched (MemberStanding.Parked locs) = locs
 
 module _ {M : Type 0} where
   -- a write to the location changes the member, if there is one

@@ -1,17 +1,17 @@
 -- A member, and a list of members by rising numbers.
 use Rattle.std.specs.Prelude.{ℕ, ◌<◌, ◌==◌, Bool, true, false, cond, List, [], ◌∷◌, All, Option, Some, None, ⊤, nat_lt}
 use Rattle.ame_pool.specs.declared.member.Member.{Member}
-use Rattle.ame_pool.specs.declared.member.Standing.{Standing}
+use Rattle.ame_pool.specs.declared.member.MemberStanding.{MemberStanding}
 
 module _ {M : Type 0} where
   abbrev pub is_ready : Member M → Bool
-  is_ready m = elim m.standing [ Standing.Ready ↦ true | Standing.Busy _ ↦ false | Standing.Parked _ ↦ false ]
+  is_ready m = elim m.standing [ MemberStanding.Ready ↦ true | MemberStanding.Busy _ ↦ false | MemberStanding.Parked _ ↦ false ]
 
   abbrev pub is_busy : Member M → Bool
-  is_busy m = elim m.standing [ Standing.Ready ↦ false | Standing.Busy _ ↦ true | Standing.Parked _ ↦ false ]
+  is_busy m = elim m.standing [ MemberStanding.Ready ↦ false | MemberStanding.Busy _ ↦ true | MemberStanding.Parked _ ↦ false ]
 
   abbrev pub is_parked : Member M → Bool
-  is_parked m = elim m.standing [ Standing.Ready ↦ false | Standing.Busy _ ↦ false | Standing.Parked _ ↦ true ]
+  is_parked m = elim m.standing [ MemberStanding.Ready ↦ false | MemberStanding.Busy _ ↦ false | MemberStanding.Parked _ ↦ true ]
 
   -- each number is below those after it
   abbrev pub IsRising : List (Member M) → Type 0

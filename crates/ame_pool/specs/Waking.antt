@@ -2,7 +2,7 @@
 use Rattle.std.specs.Prelude.{ℕ, ◌==◌, Bool, true, false, cond, List, map, filter, Some, None}
 use Rattle.std.specs.List.{list_any}
 use Rattle.ame_pool.specs.declared.member.Member.{Member}
-use Rattle.ame_pool.specs.declared.member.Standing.{Standing}
+use Rattle.ame_pool.specs.declared.member.MemberStanding.{MemberStanding}
 use Rattle.ame_pool.specs.declared.member.Watch.{Watch}
 
 -- the watch list has the location
@@ -14,17 +14,17 @@ abbrev pub touched_by : ℕ → Watch → Watch
 touched_by l w = cond (has l w.locs) (record w { touched = true }) w
 
 -- what a write to the location makes of a standing
-abbrev pub stirred : ℕ → Standing → Standing
-stirred l Standing.Ready = Standing.Ready
-stirred l (Standing.Busy None) = Standing.Busy None
-stirred l (Standing.Busy (Some w)) = Standing.Busy (Some (touched_by l w))
-stirred l (Standing.Parked locs) = cond (has l locs) Standing.Ready (Standing.Parked locs)
+abbrev pub stirred : ℕ → MemberStanding → MemberStanding
+stirred l MemberStanding.Ready = MemberStanding.Ready
+stirred l (MemberStanding.Busy None) = MemberStanding.Busy None
+stirred l (MemberStanding.Busy (Some w)) = MemberStanding.Busy (Some (touched_by l w))
+stirred l (MemberStanding.Parked locs) = cond (has l locs) MemberStanding.Ready (MemberStanding.Parked locs)
 
 -- a parked member waits for the location
-abbrev pub is_waiting_for : ℕ → Standing → Bool
-is_waiting_for l Standing.Ready = false
-is_waiting_for l (Standing.Busy w) = false
-is_waiting_for l (Standing.Parked locs) = has l locs
+abbrev pub is_waiting_for : ℕ → MemberStanding → Bool
+is_waiting_for l MemberStanding.Ready = false
+is_waiting_for l (MemberStanding.Busy w) = false
+is_waiting_for l (MemberStanding.Parked locs) = has l locs
 
 module _ {M : Type 0} where
   abbrev pub stirred_by : ℕ → Member M → Member M

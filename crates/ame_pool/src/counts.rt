@@ -4,7 +4,7 @@ ghost use Rattle.std.specs.Prelude.{◌≡◌, ◌+◌, ◌<◌, ◌&&◌, ◌^�
 ghost use Rattle.ame_pool.specs.Begin.{is_protected, is_exhausted_protected, may_begin_beside};
 ghost use Rattle.ame_pool.specs.Members.{is_busy, is_parked};
 
-use crate::member::{Member, ROLLBACK_LIMIT, Standing};
+use crate::member::{Member, MemberStanding, ROLLBACK_LIMIT};
 use crate::oldest::Oldest;
 
 /// Counts the busy members, the protected ones among them, those of these with 8 rollbacks, and the parked members.
@@ -20,13 +20,13 @@ impl<M> Member<M> {
     fn is_busy(&self) -> bool
         ensures { result ≡ is_busy self.now }
     {
-        matches!(&self.standing, Standing::Busy(_))
+        matches!(&self.standing, MemberStanding::Busy(_))
     }
 
     fn is_parked(&self) -> bool
         ensures { result ≡ is_parked self.now }
     {
-        matches!(&self.standing, Standing::Parked(_))
+        matches!(&self.standing, MemberStanding::Parked(_))
     }
 
     fn is_protected(&self) -> bool

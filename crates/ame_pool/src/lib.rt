@@ -14,7 +14,7 @@ mod registry;
 mod theorems;
 mod turn;
 
-pub use member::{Member, ROLLBACK_LIMIT, Standing, Watch};
+pub use member::{Member, MemberStanding, ROLLBACK_LIMIT, Watch};
 pub use oldest::Oldest;
 pub use pool::{MachineCopy, Pool};
 pub use theorems::found_are_all;

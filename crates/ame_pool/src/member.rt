@@ -21,12 +21,12 @@ pub struct Member<M> {
     pub inside: bool,
     /// The number of its rollbacks since its last entry, up to `ROLLBACK_LIMIT`.
     pub rollbacks: u8,
-    pub standing: Standing,
+    pub standing: MemberStanding,
 }
 
 /// The standing of a member.
 #[derive(Drop)]
-pub enum Standing {
+pub enum MemberStanding {
     Ready,
     /// A seat runs it, and it may have been noted as stuck.
     Busy(Option<Watch>),
@@ -69,7 +69,7 @@ fn is_listed(locs: &Locs, l: Loc) -> bool
     is_among(locs.as_slice(), l)
 }
 
-impl Standing {
+impl MemberStanding {
     ghost use Rattle.ame_pool.specs.Standings.{settled, is_touched};
     ghost use Rattle.ame_pool.specs.Waking.{stirred, is_waiting_for};
 
@@ -78,10 +78,10 @@ impl Standing {
         ensures standing { self.new ≡ settled self.old }
         ensures touched { result ≡ is_touched self.old }
     {
-        match mem::replace(self, Standing::Ready) {
-            Standing::Busy(Some(Watch { locs, touched })) => {
+        match mem::replace(self, MemberStanding::Ready) {
+            MemberStanding::Busy(Some(Watch { locs, touched })) => {
                 if !touched {
-                    *self = Standing::Parked(locs);
+                    *self = MemberStanding::Parked(locs);
                 }
                 touched
             }
@@ -99,18 +99,18 @@ impl Standing {
         ensures woken { result ≡ is_waiting_for l.0 self.old }
     {
         match self {
-            Standing::Ready => false,
-            Standing::Busy(None) => false,
-            Standing::Busy(Some(watch)) => {
+            MemberStanding::Ready => false,
+            MemberStanding::Busy(None) => false,
+            MemberStanding::Busy(Some(watch)) => {
                 if is_listed(&watch.locs, l) {
                     watch.touched = true;
                 }
                 false
             }
-            Standing::Parked(locs) => {
+            MemberStanding::Parked(locs) => {
                 let waits = is_listed(locs, l);
                 if waits {
-                    *self = Standing::Ready;
+                    *self = MemberStanding::Ready;
                 }
                 waits
             }
@@ -124,16 +124,16 @@ impl<M: Drop> Member<M> {
         ensures { map (λ l. l.0) result.now ≡ untouched_of self.now.standing }
     {
         match &self.standing {
-            Standing::Ready => &[],
-            Standing::Busy(None) => &[],
-            Standing::Busy(Some(watch)) => {
+            MemberStanding::Ready => &[],
+            MemberStanding::Busy(None) => &[],
+            MemberStanding::Busy(Some(watch)) => {
                 if watch.touched {
                     &[]
                 } else {
                     watch.locs.as_slice()
                 }
             }
-            Standing::Parked(locs) => locs.as_slice(),
+            MemberStanding::Parked(locs) => locs.as_slice(),
         }
     }
 
@@ -146,7 +146,7 @@ impl<M: Drop> Member<M> {
     pub fn begin(&mut self)
         ensures { self.new ≡ begun self.old }
     {
-        self.standing = Standing::Busy(None);
+        self.standing = MemberStanding::Busy(None);
     }
 
     /// Makes it ready again.
@@ -154,7 +154,7 @@ impl<M: Drop> Member<M> {
         ensures { self.new ≡ at_home rolled_back self.old }
     {
         self.rollbacks = rolled_on(rolled_back, self.rollbacks);
-        self.standing = Standing::Ready;
+        self.standing = MemberStanding::Ready;
     }
 
     /// Makes it ready with another machine, and returns the one that it had.
@@ -164,7 +164,7 @@ impl<M: Drop> Member<M> {
     {
         self.inside = inside;
         self.rollbacks = 0;
-        self.standing = Standing::Ready;
+        self.standing = MemberStanding::Ready;
         mem::replace(&mut self.machine, machine)
     }
 
@@ -173,7 +173,7 @@ impl<M: Drop> Member<M> {
         ensures { self.new ≡ noted_on locs self.old }
     {
         self.rollbacks = 0;
-        self.standing = Standing::Busy(Some(Watch {
+        self.standing = MemberStanding::Busy(Some(Watch {
             locs,
             touched: false,
         }));

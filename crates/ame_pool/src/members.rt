@@ -16,7 +16,7 @@ use std::marker::Model;
 
 /// The result of a member's turn: its slot, what the turn left, and whether the member stands inside then.
 #[derive(Drop)]
-pub struct Turned<M> {
+pub struct TurnedMember<M> {
     pub slot: usize,
     pub left: Left<M>,
     pub inside: bool,
@@ -180,7 +180,7 @@ impl<M: Drop> Members<M> {
     }
 
     /// Makes a member's turn, after which it is counted as it is then. The member is looked for once.
-    pub fn turn(&mut self, number: u64, to: Transition<M>, counts: &mut Counts) -> Turned<M>
+    pub fn turn(&mut self, number: u64, to: Transition<M>, counts: &mut Counts) -> TurnedMember<M>
         requires there { IsSome (find number self.old.list) }
         requires counted { (m : Member M) → find number self.old.list ≡ Some m → CountsIn m counts.old }
         requires busy { counts.old.busy < 2 ^ 63 }
@@ -197,7 +197,7 @@ impl<M: Drop> Members<M> {
         counts.leave(member);
         let left = member.turn(to);
         counts.enter(member);
-        Turned {
+        TurnedMember {
             slot: key,
             left,
             inside: member.inside,

@@ -13,7 +13,7 @@ use std::marker::Model;
 
 /// A number, or the gap that one left. Tickets rise along the queue.
 #[derive(Clone, Copy)]
-pub struct Entry {
+pub struct QueueEntry {
     ticket: u64,
     number: Option<u64>,
 }
@@ -22,7 +22,7 @@ pub struct Entry {
 /// for it. Tickets show the first place to look at, and no more.
 #[derive(Drop)]
 pub struct Queue {
-    entries: VecDeque<Entry>,
+    entries: VecDeque<QueueEntry>,
     /// The number of entries that are no gaps.
     len: usize,
     next_ticket: u64,
@@ -31,16 +31,16 @@ pub struct Queue {
 
 impl Model for Queue {
     ghost use Rattle.std.specs.VecDeque.{deque_capacity};
-    ghost use Rattle.ame_pool.specs.Queue.{Row, numbers_in, IsQueue};
+    ghost use Rattle.ame_pool.specs.Queue.{QueueView, numbers_in, IsQueue};
 
-    ghost Value = { Row };
+    ghost Value = { QueueView };
 
     ghost view = { λ a. record { list = numbers_in a.entries.items; places = deque_capacity a.entries } };
 
     ghost invariant = { λ a. IsQueue a.entries.items a.len };
 }
 
-impl Entry {
+impl QueueEntry {
     fn is_gap(&self) -> bool
         ensures { result ≡ is_gap self.now }
     {
@@ -74,14 +74,14 @@ fn write_down(tickets: &mut Vec<u64>, seat: usize, ticket: u64) {
 }
 
 /// Returns the first place of a number.
-fn look_through(entries: &VecDeque<Entry>, number: u64) -> Option<usize>
+fn look_through(entries: &VecDeque<QueueEntry>, number: u64) -> Option<usize>
     ensures { result ≡ position (is_of number) entries.now.items }
 {
     entries.iter().position(|e| e.is_of(number))
 }
 
 /// Returns the place of a number, if its entry has this ticket.
-fn place_at(entries: &VecDeque<Entry>, number: u64, ticket: u64) -> Option<usize>
+fn place_at(entries: &VecDeque<QueueEntry>, number: u64, ticket: u64) -> Option<usize>
     ensures { IfSome result (IsPlaceOf number entries.now.items) }
 {
     match entries.binary_search_by_key(&ticket, |e| e.ticket) {
@@ -97,7 +97,7 @@ fn place_at(entries: &VecDeque<Entry>, number: u64, ticket: u64) -> Option<usize
 }
 
 /// Returns whether a number stands first.
-fn is_first(entries: &VecDeque<Entry>, number: u64) -> bool
+fn is_first(entries: &VecDeque<QueueEntry>, number: u64) -> bool
     ensures { result ≡ true → IsPlaceOf number entries.now.items 0 }
 {
     if entries.is_empty() {
@@ -107,7 +107,7 @@ fn is_first(entries: &VecDeque<Entry>, number: u64) -> bool
 }
 
 /// Returns the place of a number. Mostly it stands first, and otherwise it is found by a search with its ticket.
-fn place_of(entries: &VecDeque<Entry>, number: u64, ticket: u64) -> Option<usize>
+fn place_of(entries: &VecDeque<QueueEntry>, number: u64, ticket: u64) -> Option<usize>
     ensures some { IfSome result (IsPlaceOf number entries.now.items) }
     ensures none { IfNone result (count_by (λ n. n == number) (numbers_in entries.now.items) ≡ 0) }
 {
@@ -121,7 +121,7 @@ fn place_of(entries: &VecDeque<Entry>, number: u64, ticket: u64) -> Option<usize
 }
 
 /// Drops the gaps that stand first.
-fn trim(entries: &mut VecDeque<Entry>)
+fn trim(entries: &mut VecDeque<QueueEntry>)
     ensures list { numbers_in entries.new.items ≡ numbers_in entries.old.items }
     ensures starts { StartsFull entries.new.items }
     ensures capacity { deque_capacity entries.new ≡ deque_capacity entries.old }
@@ -131,7 +131,7 @@ fn trim(entries: &mut VecDeque<Entry>)
     }
 }
 
-fn starts_with_gap(entries: &VecDeque<Entry>) -> bool
+fn starts_with_gap(entries: &VecDeque<QueueEntry>) -> bool
     ensures { result ≡ starts_with_gap entries.now.items }
 {
     match entries.front() {
@@ -141,7 +141,7 @@ fn starts_with_gap(entries: &VecDeque<Entry>) -> bool
 }
 
 /// Drops all gaps.
-fn pack(entries: &mut VecDeque<Entry>)
+fn pack(entries: &mut VecDeque<QueueEntry>)
     ensures list { numbers_in entries.new.items ≡ numbers_in entries.old.items }
     ensures starts { StartsFull entries.new.items }
     ensures len { deque_len entries.new ≡ length (numbers_in entries.old.items) }
@@ -151,7 +151,7 @@ fn pack(entries: &mut VecDeque<Entry>)
 }
 
 /// Drops the gaps, if they are more than half of all entries.
-fn drop_gaps(entries: &mut VecDeque<Entry>, len: usize)
+fn drop_gaps(entries: &mut VecDeque<QueueEntry>, len: usize)
     requires { StartsFull entries.old.items }
     ensures list { numbers_in entries.new.items ≡ numbers_in entries.old.items }
     ensures starts { StartsFull entries.new.items }
@@ -163,7 +163,7 @@ fn drop_gaps(entries: &mut VecDeque<Entry>, len: usize)
 }
 
 /// Drops the gaps, if no place is left.
-fn free_place(entries: &mut VecDeque<Entry>)
+fn free_place(entries: &mut VecDeque<QueueEntry>)
     requires starts { StartsFull entries.old.items }
     requires place { length (numbers_in entries.old.items) < deque_capacity entries.old }
     ensures list { numbers_in entries.new.items ≡ numbers_in entries.old.items }
@@ -223,7 +223,7 @@ impl Queue {
         self.next_ticket = ticket.wrapping_add(1);
         write_down(&mut self.tickets, seat, ticket);
         free_place(&mut self.entries);
-        self.entries.push_back_reserved(Entry {
+        self.entries.push_back_reserved(QueueEntry {
             ticket,
             number: Some(number),
         });

@@ -7,7 +7,7 @@ ghost use Rattle.ame_pool.specs.Begin.{may_begin_beside};
 ghost use Rattle.ame_pool.specs.Members.{find};
 
 use crate::counts::Counts;
-use crate::member::{Member, Standing};
+use crate::member::{Member, MemberStanding};
 use crate::members::Members;
 use crate::oldest::Oldest;
 use crate::ready::Ready;
@@ -95,7 +95,7 @@ impl<M: Drop> Registry<M> {
             machine,
             inside,
             rollbacks: 0,
-            standing: Standing::Ready,
+            standing: MemberStanding::Ready,
         });
         self.ready.push(number, self.members.slot(number), inside);
     }

@@ -6,7 +6,7 @@ pub mod Bounds
 pub mod Rollbacks
 pub mod Undoing
 pub mod Seated
-pub mod State
+pub mod EngineState
 pub mod Event
 pub mod After
 pub mod May

@@ -20,4 +20,4 @@ pub use theorems::{
     undo_logs_stand_after_an_undo, unprotected_code_wakes_nobody,
     waiting_members_have_certificates,
 };
-pub use types::{Attempt, Limits, Reason, Task, Tried};
+pub use types::{Attempt, Limits, Task, Tried, UndoReason};

@@ -17,7 +17,7 @@ ghost use Rattle.ame_machine.specs.Run.Local.{LocalState};
 ghost use Rattle.ame_machine.specs.Run.Fit.{IsTypedPlace};
 ghost use Rattle.ame_machine.specs.Run.Told.{TellsRun};
 ghost use Rattle.ame_protocol.specs.Row.Heap.{Heap, IsCommitted, ShowsStore, cell_at, IsCell};
-ghost use Rattle.ame_protocol.specs.Row.SeatRun.{SeatRun, HasUsed, AreValid, StandsAt};
+ghost use Rattle.ame_protocol.specs.Row.SeatRun.{SeatRun, HasUsed, AreValid, IsAtAct};
 ghost use Rattle.ame_protocol.specs.Row.Owes.{Owes};
 ghost use Rattle.ame_protocol.specs.Row.Changed.{ReleasesAll, BecomesAt, KeepsCommitted};
 ghost use Rattle.ame_protocol.specs.Row.Scoped.{IsScoped, IsTypedNow};
@@ -134,7 +134,7 @@ pub fn exhausted_members_open_alone()
 pub fn journals_tell_the_calls_of_visits()
     ensures call { (parts : Parts) (seat : ℕ) (attempt : Attempt) (n : ℕ) (p : LocalState) (k device : ℕ) (argument answer : ℤ) → Simulates parts
         → task_at parts.tasks seat ≡ Task.Free attempt → StepsTo parts attempt.tried.number n p
-        → StandsAt Side.Unprotected (Act.Calls device argument) p
+        → IsAtAct Side.Unprotected (Act.Calls device argument) p
         → device_calls k parts.program (whole_journal (has_visited seat attempt.tried.number (n + 1) (answered_at answer p) true parts.memory parts))
         ≡ device_calls k parts.program (whole_journal parts) ++ (if device == k then (argument, answer) ∷ [] else []) }
     ensures none { (parts : Parts) (seat number n : ℕ) (p : LocalState) (inside : Bool) (memory : MemoryView Val) (k : ℕ) → Simulates parts → p.answer ≡ None

@@ -29,7 +29,7 @@ pub struct Attempt {
 
 /// Why a row is undone.
 #[derive(Clone, Copy, PartialEq, Eq, Debug)]
-pub enum Reason {
+pub enum UndoReason {
     /// Another seat was in its way, or a read isn't valid.
     RolledBack,
     /// It waits for what it read.
@@ -46,5 +46,5 @@ pub enum Task {
     Running(Attempt),
     /// It runs unprotected code.
     Free(Attempt),
-    Undoing(Attempt, Reason),
+    Undoing(Attempt, UndoReason),
 }

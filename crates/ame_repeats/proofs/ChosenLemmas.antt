@@ -4,7 +4,7 @@ use Rattle.std.specs.Prelude.{IsSome, replicate, slice_index_or}
 use Rattle.ame_gen.specs.Stream.{next}
 use Rattle.ame_machine.specs.Meaning.{Meaning}
 use Rattle.ame_protocol.specs.declared.stop.Stop.{Stop}
-use Rattle.ame_protocol.specs.Event.State.{State}
+use Rattle.ame_protocol.specs.Event.EngineState.{EngineState}
 use Rattle.ame_engine.specs.Makes.{state_of}
 use Rattle.ame_engine.specs.Ending.{End}
 use Rattle.ame_protocol.specs.declared.types.Limits.{Limits}
@@ -63,7 +63,7 @@ module _ {S : Type 0} (run : S → List (List ℕ) → List ℕ) (asks : Asks ru
 
     -- state and stop of a shell
     pub stop-one : (old other : ShellView C V M) → state_of meaning old.core ≡ state_of meaning other.core → old.core.stop ≡ other.core.stop
-    stop-one old other same = ap (λ (z : State). z.stop) same
+    stop-one old other same = ap (λ (z : EngineState). z.stop) same
 
     pub chosen-seats : (x : S) (waits : List Bool) (after next-after : List (List ℕ) → List ℕ) (mades others : List Made) (first last other end : ShellView C V M)
         (plays : Plays meaning mades first last) (again : Plays meaning others other end)

@@ -22,7 +22,7 @@ use Rattle.ame_protocol.specs.Visits.Stops.{MayBeNoted}
 use Rattle.ame_protocol.specs.Event.After.{after}
 use Rattle.ame_protocol.specs.Event.Event.{Event, Find, Reverse}
 use Rattle.ame_protocol.specs.Event.May.{May}
-use Rattle.ame_protocol.specs.Event.State.{State, cell}
+use Rattle.ame_protocol.specs.Event.EngineState.{EngineState, cell}
 use Rattle.ame_protocol.proofs.Engine.ShownMemoryLemmas.{row-shown}
 use Rattle.ame_engine.specs.declared.pick.Pick.{Pick}
 use Rattle.ame_engine.specs.Begins.{pick_of, stop_met}
@@ -41,7 +41,7 @@ use Rattle.ame_repeats.proofs.VisitsLemmas.{false-apart, one-visit}
 use Rattle.ame_repeats.proofs.ClassLemmas.{its-class, is_lost}
 
 -- two events at one state
-pub record AreOne (s : State) (o p : Outcome) (e f : Event) : Type 0 where
+pub record AreOne (s : EngineState) (o p : Outcome) (e f : Event) : Type 0 where
   pub outcome : o ≡ p
   pub leads : after e s ≡ after f s
   pub answer : answer_of e ≡ answer_of f
@@ -78,7 +78,7 @@ not-met seat owner c (inr mine) own apart = apart (owner-one c.owner owner seat 
 
 module _ {C V M : Type 0} (meaning : Meaning C V M) (seat : ℕ) (hand : Option MachineView) (old new other next : Core C V M) (b1 a1 b2 a2 : List Told)
     (same : state_of meaning old ≡ state_of meaning other) where
-  abbrev S : State
+  abbrev S : EngineState
   S = state_of meaning old
 
   abbrev One : Outcome → Outcome → Event → Event → Type 0
@@ -92,7 +92,7 @@ module _ {C V M : Type 0} (meaning : Meaning C V M) (seat : ℕ) (hand : Option 
       let there : IsValid cells seat (row_at (state_of meaning one).parts.memory.rows seat).reads =
       subst (IsValid cells seat) (sym (ap (λ (n : Log Val). n.reads) (row-shown (meaning.value_of one.code) one.memory.rows seat))) shown in
       let moved : IsValid (state_of meaning two).parts.memory.cells seat (row_at (state_of meaning two).parts.memory.rows seat).reads =
-      subst (λ (x : State). IsValid x.parts.memory.cells seat (row_at x.parts.memory.rows seat).reads) is there in
+      subst (λ (x : EngineState). IsValid x.parts.memory.cells seat (row_at x.parts.memory.rows seat).reads) is there in
       shown-valid (meaning.value_of two.code) two.memory.cells seat (row_at two.memory.rows seat).reads
       (subst (IsValid (state_of meaning two).parts.memory.cells seat) (ap (λ (n : Log Val). n.reads) (row-shown (meaning.value_of two.code) two.memory.rows seat)) moved)
 
@@ -108,7 +108,7 @@ module _ {C V M : Type 0} (meaning : Meaning C V M) (seat : ℕ) (hand : Option 
 
   bad-one : (bad worse : Bad) → BadAt old bad → BadAt other worse → bad ≡ worse
   bad-one bad worse h i =
-      let there = subst (λ (x : State). IsFirstBad x.parts.memory.cells seat (row_at x.parts.memory.rows seat).reads worse) (sym same) (bad-there other worse i) in
+      let there = subst (λ (x : EngineState). IsFirstBad x.parts.memory.cells seat (row_at x.parts.memory.rows seat).reads worse) (sym same) (bad-there other worse i) in
       one-bad S.parts.memory.cells seat (row_at S.parts.memory.rows seat).reads bad worse (bad-there old bad h) there
 
   -- places of a machine, up to their footprint
@@ -121,7 +121,7 @@ module _ {C V M : Type 0} (meaning : Meaning C V M) (seat : ℕ) (hand : Option 
   steps-one s t is = ap (λ (m : MachineView). m.steps) is
 
   woken-one : owned_places seat (parts_of meaning old).memory.cells ≡ owned_places seat (parts_of meaning other).memory.cells
-  woken-one = ap (λ (x : State). owned_places seat x.parts.memory.cells) same
+  woken-one = ap (λ (x : EngineState). owned_places seat x.parts.memory.cells) same
 
   back-one : (a b : Attempt) (find seen : Find) → a ≡ b → find ≡ seen → after (Event.TurnBack seat a (Reverse.Stale find)) S ≡ after (Event.TurnBack seat b (Reverse.Stale seen)) S
   back-one a b find seen i j =
@@ -269,7 +269,7 @@ module _ {C V M : Type 0} (meaning : Meaning C V M) (seat : ℕ) (hand : Option 
       let attempt : a ≡ a' = free-one (task_at S.parts.tasks seat) a a' m.1.task n.1.task in
       let moved : VisitsTo s S.parts.memory b2 answer' comes' memory' a2 =
       subst (λ (x : MachineView). VisitsTo x S.parts.memory b2 answer' comes' memory' a2) (sym stage)
-      (subst (λ (x : State). VisitsTo s' x.parts.memory b2 answer' comes' memory' a2) (sym same) visits') in
+      (subst (λ (x : EngineState). VisitsTo s' x.parts.memory b2 answer' comes' memory' a2) (sym same) visits') in
       let given : place.answer ≡ answer = ap (λ (x : LocalState). x.answer) shows in
       let given' : place'.answer ≡ answer' = ap (λ (x : LocalState). x.answer) shows' in
       let one = one-visit s S.parts.memory b1 a1 b2 a2 answer answer' comes comes' memory memory' visits moved (λ x y i j. agree x y (given ∙ i) (given' ∙ j)) in

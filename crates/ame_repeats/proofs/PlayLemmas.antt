@@ -14,7 +14,7 @@ use Rattle.ame_protocol.specs.Engine.Parts.{task_at, member_of}
 use Rattle.ame_protocol.specs.Event.After.{after}
 use Rattle.ame_protocol.specs.Event.Event.{Event}
 use Rattle.ame_protocol.specs.Event.Runs.{entries_told}
-use Rattle.ame_protocol.specs.Event.State.{State, started_state}
+use Rattle.ame_protocol.specs.Event.EngineState.{EngineState, started_state}
 use Rattle.ame_protocol.specs.Row.Shown.{shown_cell}
 use Rattle.ame_protocol.proofs.Event.RunLemmas.{run-tells}
 use Rattle.ame_engine.specs.Core.{Core}
@@ -70,7 +70,7 @@ module _ {C V M : Type 0} (meaning : Meaning C V M) (seat : ℕ) (hand : Option 
   made-adds : (o : Outcome) (made : IsMade meaning seat hand old new before told o) → Adds o made
   made-adds _ (IsMade.makes o e is m) = record {
     more = entries_told e;
-    adds = ap (λ (x : State). x.parts.entries) m.state ∙ run-tells (e ∷ []) (state_of meaning old) (after e (state_of meaning old)) (m.may, refl)
+    adds = ap (λ (x : EngineState). x.parts.entries) m.state ∙ run-tells (e ∷ []) (state_of meaning old) (after e (state_of meaning old)) (m.may, refl)
         ∙ ap (λ (xs : List Entry). old.entries ++ xs) (append-nil (entries_told e));
     answers = told-answers e;
   }
@@ -98,7 +98,7 @@ module _ {C V M : Type 0} (meaning : Meaning C V M) where
       let there = made-adds meaning seat hand other next b2 a2 p y in
       let r = answer_made meaning seat hand old new b1 a1 o x in
       let s = answer_made meaning seat hand other next b2 a2 p y in
-      let entries : other.entries ≡ old.entries = ap (λ (z : State). z.parts.entries) (sym same) in
+      let entries : other.entries ≡ old.entries = ap (λ (z : EngineState). z.parts.entries) (sym same) in
       let left : answers_in new.entries ++ alike.more ≡ answers_in old.entries ++ (one_answer r ++ alike.more) =
       ap (λ (xs : List Entry). answers_in xs ++ alike.more) here.adds ∙ ap (λ (xs : List ℤ). xs ++ alike.more) (answers-append old.entries here.more)
       ∙ append_assoc (answers_in old.entries) (answers_in here.more) alike.more
@@ -113,7 +113,7 @@ module _ {C V M : Type 0} (meaning : Meaning C V M) where
 
   cells-one : (old other : Core C V M) → state_of meaning old ≡ state_of meaning other → length other.memory.cells ≡ length old.memory.cells
   cells-one old other same =
-      sym (length-map other.memory.cells (shown_cell (meaning.value_of other.code))) ∙ ap (λ (x : State). length x.parts.memory.cells) (sym same)
+      sym (length-map other.memory.cells (shown_cell (meaning.value_of other.code))) ∙ ap (λ (x : EngineState). length x.parts.memory.cells) (sym same)
       ∙ length-map old.memory.cells (shown_cell (meaning.value_of old.code))
 
   -- a machine was prepared, as memory didn't run out
@@ -128,11 +128,11 @@ module _ {C V M : Type 0} (meaning : Meaning C V M) where
       (x : HasPlayed meaning made old new) (y : HasPlayed meaning again other next) → again.seat ≡ made.seat → is_fault new.core.stop ≡ false → is_fault next.core.stop ≡ false
       → AreAnsweredAlike new.core.entries next.core.entries → IsOnePick made again new next
   pick-again made again old new other next same going x y seat fine well alike =
-      let there : other.core.stop ≡ None = ap (λ (z : State). z.stop) (sym same) ∙ going in
+      let there : other.core.stop ≡ None = ap (λ (z : EngineState). z.stop) (sym same) ∙ going in
       let ready = made-prepared made old new going x fine in
       let prepared = made-prepared again other next there y well in
       let moved : IsPreparedHand (parts_of meaning old.core) made.seat y.hand =
-      subst (λ (z : State). IsPreparedHand z.parts made.seat y.hand) (sym same) (subst (λ (z : ℕ). IsPreparedHand (parts_of meaning other.core) z y.hand) seat prepared) in
+      subst (λ (z : EngineState). IsPreparedHand z.parts made.seat y.hand) (sym same) (subst (λ (z : ℕ). IsPreparedHand (parts_of meaning other.core) z y.hand) seat prepared) in
       let hands : y.hand ≡ x.hand = hand-one (parts_of meaning old.core) made.seat y.hand x.hand moved ready in
       let turned : HasTurned meaning made.seat x.hand other next again.outcome =
       subst (λ (h : Option MachineView). HasTurned meaning made.seat h other next again.outcome) hands
@@ -153,8 +153,8 @@ module _ {C V M : Type 0} (meaning : Meaning C V M) where
       let leads : state_of meaning new.core ≡ state_of meaning next.core = ap (state_of meaning) kept ∙ one.leads ∙ sym (ap (state_of meaning) kept') in
       let member : again.member ≡ made.member =
       y.member ∙ ap (λ (z : ℕ). member_told (member_of (task_at other.core.tasks z)) (member_of (task_at next.core.tasks z))) seat
-      ∙ ap (λ (z : State). member_told (member_of (task_at z.parts.tasks made.seat)) (member_of (task_at next.core.tasks made.seat))) (sym same)
-      ∙ ap (λ (z : State). member_told (member_of (task_at old.core.tasks made.seat)) (member_of (task_at z.parts.tasks made.seat))) (sym leads) ∙ sym x.member in
+      ∙ ap (λ (z : EngineState). member_told (member_of (task_at z.parts.tasks made.seat)) (member_of (task_at next.core.tasks made.seat))) (sym same)
+      ∙ ap (λ (z : EngineState). member_told (member_of (task_at old.core.tasks made.seat)) (member_of (task_at z.parts.tasks made.seat))) (sym leads) ∙ sym x.member in
       let place : again.place ≡ made.place =
       y.place ∙ ap (λ (o : Outcome). place_told o (place_wanted (length other.core.memory.cells) y.hand)) (sym one.outcome)
       ∙ ap (λ (n : ℕ). place_told made.outcome (place_wanted n y.hand)) (cells-one old.core other.core same)
@@ -266,9 +266,9 @@ module _ {C V M : Type 0} (meaning : Meaning C V M) where
         ap (λ (z : ShellView C V M). state_of meaning z.core) there ∙ sym all.leads ∙ sym (ap (λ (z : ShellView C V M). state_of meaning z.core) here) in (
           all.same,
           record {
-            entries = q.entries ∙ ap (λ (z : State). z.parts.entries) states ∙ sym p.entries;
-            output = q.output ∙ ap (λ (z : State). z.parts.output) states ∙ sym p.output;
-            turns = q.turns ∙ ap (λ (z : State). z.parts.turns) states ∙ sym p.turns;
-            stop = q.stop ∙ ap (λ (z : State). z.stop) states ∙ sym p.stop;
+            entries = q.entries ∙ ap (λ (z : EngineState). z.parts.entries) states ∙ sym p.entries;
+            output = q.output ∙ ap (λ (z : EngineState). z.parts.output) states ∙ sym p.output;
+            turns = q.turns ∙ ap (λ (z : EngineState). z.parts.turns) states ∙ sym p.turns;
+            stop = q.stop ∙ ap (λ (z : EngineState). z.stop) states ∙ sym p.stop;
           },
         )

@@ -12,7 +12,7 @@ use Rattle.ame_protocol.specs.Engine.Parts.{task_at}
 use Rattle.ame_protocol.specs.Event.After.{after}
 use Rattle.ame_protocol.specs.Event.Event.{Event}
 use Rattle.ame_protocol.specs.Event.May.{May}
-use Rattle.ame_protocol.specs.Event.State.{State}
+use Rattle.ame_protocol.specs.Event.EngineState.{EngineState}
 use Rattle.ame_engine.specs.declared.pick.Pick.{Pick}
 use Rattle.ame_engine.specs.AtWork.{IsOnSeat}
 use Rattle.ame_engine.specs.Begins.{pick_of, pick_by}
@@ -33,7 +33,7 @@ use Rattle.ame_repeats.proofs.PairLemmas.{pair}
 module _ {C V M : Type 0} (meaning : Meaning C V M) (old other : Core C V M) (same : state_of meaning old ≡ state_of meaning other) where
   oldest-one : oldest old.pool ≡ oldest other.pool
   oldest-one =
-      sym (oldest-shown (term_shown meaning.stage old.code) old.pool) ∙ ap (λ (x : State). oldest x.parts.pool) same
+      sym (oldest-shown (term_shown meaning.stage old.code) old.pool) ∙ ap (λ (x : EngineState). oldest x.parts.pool) same
       ∙ oldest-shown (term_shown meaning.stage other.code) other.pool
 
   abbrev picked : Option Stop → ℕ → ℕ → Oldest → Pick
@@ -41,13 +41,13 @@ module _ {C V M : Type 0} (meaning : Meaning C V M) (old other : Core C V M) (sa
 
   pub pick-one : pick_of old ≡ pick_of other
   pick-one =
-      ap (λ (x : State). picked x.stop x.parts.turns x.parts.limits.turns (oldest old.pool)) same
+      ap (λ (x : EngineState). picked x.stop x.parts.turns x.parts.limits.turns (oldest old.pool)) same
       ∙ ap (picked other.stop other.turns other.limits.turns) oldest-one
 
   pub class-one : (seat : ℕ) (hand : Option MachineView) (new next : Core C V M) (b1 a1 b2 a2 : List Told)
       → class-here meaning seat hand old new b1 a1 ≡ class-here meaning seat hand other next b2 a2
   class-one seat hand new next b1 a1 b2 a2 =
-      ap (λ (x : State). class (is_idle (task_at x.parts.tasks seat)) (nat_lt x.parts.turns x.parts.limits.turns) (pick_of old) hand x.parts.limits.slice) same
+      ap (λ (x : EngineState). class (is_idle (task_at x.parts.tasks seat)) (nat_lt x.parts.turns x.parts.limits.turns) (pick_of old) hand x.parts.limits.slice) same
       ∙ ap (λ (p : Pick). class (is_idle (task_at other.tasks seat)) (nat_lt other.turns other.limits.turns) p hand other.limits.slice) pick-one
 
 by-pick : (spent : Bool) (found : Oldest) → pick_by spent found ≡ Pick.Stopped → ⊥
@@ -112,7 +112,7 @@ module _ {C V M : Type 0} (meaning : Meaning C V M) (seat : ℕ) (hand : Option 
   not-lost _ (IsMade.makes _ e (IsOutcomeOf.not_tall s a bad runs invalid) m) going fine = refl
   not-lost _ (IsMade.makes _ e (IsOutcomeOf.came_home s comes answer memory a place visit visits shows) m) going fine = refl
   not-lost _ (IsMade.makes _ e (IsOutcomeOf.device_failed s device argument a visit wants fails) m) going fine =
-      let stop : new.stop ≡ Some (Stop.DeviceFault device) = ap (λ (x : State). x.stop) m.state in
+      let stop : new.stop ≡ Some (Stop.DeviceFault device) = ap (λ (x : EngineState). x.stop) m.state in
       absurd (let clash : true ≡ false = sym (ap is_fault stop) ∙ fine in cc)
   not-lost _ (IsMade.makes _ e (IsOutcomeOf.cut s a place none met valid shows) m) going fine = refl
   not-lost _ (IsMade.makes _ e (IsOutcomeOf.spent none busy invalid is) m) going fine = refl
@@ -134,14 +134,14 @@ module _ {C V M : Type 0} (meaning : Meaning C V M) (seat : ℕ) (hand : Option 
   flush-going _ (IsMade.makes _ e (IsOutcomeOf.allocated s sort ty v comes sets) m) going flush = cc
   flush-going _ (IsMade.makes _ e (IsOutcomeOf.checked s a checks) m) going flush = cc
   flush-going _ (IsMade.makes _ e (IsOutcomeOf.found_invalid s a bad checks invalid) m) going flush = cc
-  flush-going _ (IsMade.makes _ e (IsOutcomeOf.ended s a place runs shows) m) going flush = ap (λ (x : State). x.stop) m.state ∙ going
-  flush-going _ (IsMade.makes _ e (IsOutcomeOf.left s a place runs shows) m) going flush = ap (λ (x : State). x.stop) m.state ∙ going
+  flush-going _ (IsMade.makes _ e (IsOutcomeOf.ended s a place runs shows) m) going flush = ap (λ (x : EngineState). x.stop) m.state ∙ going
+  flush-going _ (IsMade.makes _ e (IsOutcomeOf.left s a place runs shows) m) going flush = ap (λ (x : EngineState). x.stop) m.state ∙ going
   flush-going _ (IsMade.makes _ e (IsOutcomeOf.refused s a bad commit invalid) m) going flush = cc
   flush-going _ (IsMade.makes _ e (IsOutcomeOf.noted s a place runs shows) m) going flush = cc
   flush-going _ (IsMade.makes _ e (IsOutcomeOf.not_noted s a bad runs invalid) m) going flush = cc
   flush-going _ (IsMade.makes _ e (IsOutcomeOf.grew_tall s a place asks valid shows) m) going flush = cc
   flush-going _ (IsMade.makes _ e (IsOutcomeOf.not_tall s a bad runs invalid) m) going flush = cc
-  flush-going _ (IsMade.makes _ e (IsOutcomeOf.came_home s comes answer memory a place visit visits shows) m) going flush = ap (λ (x : State). x.stop) m.state ∙ going
+  flush-going _ (IsMade.makes _ e (IsOutcomeOf.came_home s comes answer memory a place visit visits shows) m) going flush = ap (λ (x : EngineState). x.stop) m.state ∙ going
   flush-going _ (IsMade.makes _ e (IsOutcomeOf.device_failed s device argument a visit wants fails) m) going flush = cc
   flush-going _ (IsMade.makes _ e (IsOutcomeOf.cut s a place none met valid shows) m) going flush = cc
   flush-going _ (IsMade.makes _ e (IsOutcomeOf.spent none busy invalid is) m) going flush = cc
@@ -190,10 +190,10 @@ module _ {C V M : Type 0} (meaning : Meaning C V M) (seat : ℕ) (hand : Option 
     pub leads : state_of meaning new ≡ state_of meaning next
 
   on-there : (s : MachineView) → hand ≡ Some s → IsOnSeat (parts_of meaning other) seat s
-  on-there s e = subst (λ (x : State). IsOnSeat x.parts seat s) same (on s e)
+  on-there s e = subst (λ (x : EngineState). IsOnSeat x.parts seat s) same (on s e)
 
   going-there : other.stop ≡ None
-  going-there = ap (λ (x : State). x.stop) (sym same) ∙ going
+  going-there = ap (λ (x : EngineState). x.stop) (sym same) ∙ going
 
   classes : class-here meaning seat hand old new b1 a1 ≡ class-here meaning seat hand other next b2 a2
   classes = class-one meaning old other same seat hand new next b1 a1 b2 a2

@@ -41,7 +41,7 @@ use Rattle.ame_journal.specs.declared.entry.Entry.{Entry}
 use Rattle.ame_weak.specs.Bounds.{is_growing_tall}
 use Rattle.ame_runner.specs.Tall.{tall_note, IsTallIn}
 use Rattle.ame_runner.specs.Within.{IsReachedWithin}
-use Rattle.ame_runner.specs.declared.freeing.Freed.{Freed}
+use Rattle.ame_runner.specs.declared.freeing.FreeStep.{FreeStep}
 use Rattle.ame_runner.specs.declared.stop.WeakStop.{WeakStop}
 use Rattle.ame_runner.proofs.NoteLemmas.{all-more}
 use Rattle.ame_runner.proofs.CountLemmas.{itself, or-there}
@@ -142,7 +142,7 @@ module _ (a b q : CourseView) (before mid after : List Told) (runs : IsRunning a
 
 module _ (devices : ℕ) (places : List ℕ) (program : Tree) (refs : List Typ) (accepts : Accepts devices places program refs) (source : IsSourceTerm program) (numbered : IsNumbered 0 program) where
   -- a label under `unprotected`
-  pub goes-label : (r q : CourseView) (i : ℕ) (label : Label) (before after : List Told) → r.play.program ≡ program → HasFreed r.play.weak i r.above before after (Freed.Label label)
+  pub goes-label : (r q : CourseView) (i : ℕ) (label : Label) (before after : List Told) → r.play.program ≡ program → HasFreed r.play.weak i r.above before after (FreeStep.Label label)
       → HasMadeLabel label r.play q.play → (IsRunning r → IsRunning q) → IsRunning r → IsRunning q × HearsOn None r q before after × ⊤
   goes-label r q i label before after is freed made runs running = (
     runs running,

@@ -12,11 +12,11 @@ use Rattle.ame_weak.specs.declared.tries.Try.{Try}
 use Rattle.ame_runner.specs.Labels.{label_location, behind_location, location_above}
 use Rattle.ame_runner.specs.Play.{PlayView, IsPlayedWeakly}
 use Rattle.ame_runner.specs.Trial.{AreNext, last_turn, is_failure}
-use Rattle.ame_runner.specs.declared.trial.Outcome.{Outcome}
+use Rattle.ame_runner.specs.declared.trial.AttemptEnd.{AttemptEnd}
 use Rattle.ame_runner.specs.Within.{HoldsWithin}
 use Rattle.ame_runner.specs.Notes.{IsAsideSince, AreKept}
 use Rattle.ame_runner.specs.Freeing.{MakesOnly}
-use Rattle.ame_runner.specs.Run.{CourseView, turns_of_tries, IsOwn, AreSettled, AreFailedTries, IsCutNow, IsRunning, HasRun}
+use Rattle.ame_runner.specs.Run.{CourseView, turns_of_tries, IsOwn, AreSettled, AreFailedTries, IsCutNow, IsRunning, HasMadeUncounted}
 use Rattle.ame_runner.proofs.NoteLemmas.{all-more, kept-try}
 use Rattle.ame_runner.proofs.RunLemmas.{kept-on, settled-on}
 
@@ -68,7 +68,7 @@ only-low l label only = by (label_location label) refl
     by (Some m) is = let some : behind_location (label_location label) ≡ m + 1 = ap behind_location is in let same = only m is in omega (arith, some, same)
 
 -- a label that is counted, which makes the least location or none
-pub runs-counted : (r m q : CourseView) (label : Label) → IsRunning r → HasRun label r m → MakesOnly r.above label → r.turns < r.limit
+pub runs-counted : (r m q : CourseView) (label : Label) → IsRunning r → HasMadeUncounted label r m → MakesOnly r.above label → r.turns < r.limit
     → q ≡ record m { above = max m.above m.play.above; turns = m.turns + 1 } → IsRunning q
 runs-counted r m q label x h fresh more is = subst IsRunning (sym is) (record {
   played = h.played x.played;
@@ -208,9 +208,9 @@ runs-begun r q i kinds last x next none own play tries aside left turns within m
     still (t ∷ ts) all = ((λ failing. elim (all.0 failing) [ inl is ↦ inl (aside t.certificate.number ∙ is) | inr change ↦ inr change ]), still ts all.1)
 
 -- a fragment without a last label, which didn't grow too tall, failed or was cut off
-pub how-noted : (o : Outcome) → last_turn o ≡ 0 → (o ≡ Outcome.Tall → ⊥) → (is_failure o ≡ true) ⊎ (o ≡ Outcome.Cut)
-how-noted Outcome.Leaves none low = absurd (omega (arith, none))
-how-noted Outcome.Ends none low = absurd (omega (arith, none))
-how-noted Outcome.Fails none low = inl refl
-how-noted Outcome.Tall none low = absurd (low refl)
-how-noted Outcome.Cut none low = inr refl
+pub how-noted : (o : AttemptEnd) → last_turn o ≡ 0 → (o ≡ AttemptEnd.Tall → ⊥) → (is_failure o ≡ true) ⊎ (o ≡ AttemptEnd.Cut)
+how-noted AttemptEnd.Leaves none low = absurd (omega (arith, none))
+how-noted AttemptEnd.Ends none low = absurd (omega (arith, none))
+how-noted AttemptEnd.Fails none low = inl refl
+how-noted AttemptEnd.Tall none low = absurd (low refl)
+how-noted AttemptEnd.Cut none low = inr refl

@@ -12,18 +12,18 @@ use Rattle.ame_weak.specs.Bounds.{is_growing_tall}
 use Rattle.ame_weak.specs.declared.tries.Try.{Try}
 use Rattle.ame_runner.specs.Freeing.{MakesOnly, IsLabelOf, FailsFor}
 use Rattle.ame_runner.specs.Play.{PlayView}
-use Rattle.ame_runner.specs.Run.{CourseView, IsRunning, CanBeEnded, HasRun}
+use Rattle.ame_runner.specs.Run.{CourseView, IsRunning, CanBeEnded, HasMadeUncounted}
 use Rattle.ame_runner.specs.Stop.{MayGoOn, IsFoundInOrder, HasStoppedWeakly, FoundAtRest}
 use Rattle.ame_runner.specs.Tall.{tall_note}
 use Rattle.ame_runner.specs.Trial.{last_turn}
-use Rattle.ame_runner.specs.Drawn.{drawn_by, GoesOn, StepsFree, MayBegin, PlansFragment, ComesToNothing, NotesTry, Takes, Course, RestsWith, StopsAt, EndsBy, IsDrawn}
-use Rattle.ame_runner.specs.Drawing.{HasCounted, RunsOn, HasRunOut, HasActivated, KeepsCourse, HasTried, HasStoppedAt, TakesOrStops, HasDrawn, HasNotDrawn, HasEndedBy, DrawsOrEnds, DrawsAll, IsReportOf}
+use Rattle.ame_runner.specs.Drawn.{drawn_by, MakesNextLabel, StepsFree, MayAttempt, PlansFragment, ComesToNothing, NotesTry, GoesOnWhenDrawn, Course, RestsWith, StopsWhenDrawn, EndsBy, IsDrawn}
+use Rattle.ame_runner.specs.Drawing.{HasCountedTurn, RunsOn, HasRunOut, HasActivated, KeepsCourse, HasTried, HasStoppedAt, TakesOrStops, HasDrawn, HasNotDrawn, HasEndedBy, DrawsOrEnds, DrawsAll, IsReportOf}
 use Rattle.ame_runner.specs.declared.stop.WeakStop.{WeakStop}
-use Rattle.ame_runner.specs.declared.trial.Outcome.{Outcome}
+use Rattle.ame_runner.specs.declared.trial.AttemptEnd.{AttemptEnd}
 
 -- Labels
 
-pub gone-on : (c d : CourseView) (label : Label) (rest : List Label) → c.left ≡ label ∷ rest → HasRun label (record c { left = rest }) d → GoesOn c d
+pub gone-on : (c d : CourseView) (label : Label) (rest : List Label) → c.left ≡ label ∷ rest → HasMadeUncounted label (record c { left = rest }) d → MakesNextLabel c d
 gone-on c d label rest first h = record {
   label = label;
   first = first ∙ ap (λ (ls : List Label). label ∷ ls) (sym h.left);
@@ -32,16 +32,16 @@ gone-on c d label rest first h = record {
   turns = h.turns;
 }
 
-pub has-counted : (c m d : CourseView) (label : Label) → HasRun label c m → d ≡ record m { above = max m.above m.play.above; turns = m.turns + 1 } → HasCounted label c d
-has-counted c m d label h is = subst (HasCounted label c) (sym is) (record {
+pub has-counted : (c m d : CourseView) (label : Label) → HasMadeUncounted label c m → d ≡ record m { above = max m.above m.play.above; turns = m.turns + 1 } → HasCountedTurn label c d
+has-counted c m d label h is = subst (HasCountedTurn label c) (sym is) (record {
   adds = record { made = h.made; tries = h.tries; aside = h.aside; limit = h.limit };
   left = h.left;
   above = ap (λ (n : ℕ). max n m.play.above) h.above;
   turns = ap (λ (n : ℕ). n + 1) h.turns;
 })
 
-pub steps-free : (i : ℕ) (c d : CourseView) (label : Label) → IsLabelOf i label → MakesOnly c.above label → HasCounted label c d → Takes i c d
-steps-free i c d label own fresh h = Takes.steps (record { label = label; own = own; fresh = fresh; adds = h.adds; left = h.left; above = h.above; turns = h.turns })
+pub steps-free : (i : ℕ) (c d : CourseView) (label : Label) → IsLabelOf i label → MakesOnly c.above label → HasCountedTurn label c d → GoesOnWhenDrawn i c d
+steps-free i c d label own fresh h = GoesOnWhenDrawn.steps (record { label = label; own = own; fresh = fresh; adds = h.adds; left = h.left; above = h.above; turns = h.turns })
 
 -- The active fragment runs to its end
 
@@ -83,31 +83,31 @@ keeps-still c d none play tries = record {
 
 -- Attempts
 
-pub comes-to-nothing : (o : Outcome) → last_turn o ≡ 0 → (o ≡ Outcome.Tall → ⊥) → ComesToNothing o
-comes-to-nothing Outcome.Leaves none low = absurd (omega (arith, none))
-comes-to-nothing Outcome.Ends none low = absurd (omega (arith, none))
-comes-to-nothing Outcome.Fails none low = inl refl
-comes-to-nothing Outcome.Tall none low = absurd (low refl)
-comes-to-nothing Outcome.Cut none low = inr refl
+pub comes-to-nothing : (o : AttemptEnd) → last_turn o ≡ 0 → (o ≡ AttemptEnd.Tall → ⊥) → ComesToNothing o
+comes-to-nothing AttemptEnd.Leaves none low = absurd (omega (arith, none))
+comes-to-nothing AttemptEnd.Ends none low = absurd (omega (arith, none))
+comes-to-nothing AttemptEnd.Fails none low = inl refl
+comes-to-nothing AttemptEnd.Tall none low = absurd (low refl)
+comes-to-nothing AttemptEnd.Cut none low = inr refl
 
 not-nothing : (label : Label) (rest ls : List Label) → ls ≡ label ∷ rest → ls ≡ [] → ⊥
 not-nothing label rest ls some none = let clash : suc (length rest) ≡ 0 = sym (ap length some) ∙ ap length none in omega (arith, clash)
 
-module _ (i : ℕ) (c m d : CourseView) (may : MayBegin i c) (none : c.left ≡ []) where
-  plans : PlansFragment i c m → HasActivated m d → Takes i c d
+module _ (i : ℕ) (c m d : CourseView) (may : MayAttempt i c) (none : c.left ≡ []) where
+  plans : PlansFragment i c m → HasActivated m d → GoesOnWhenDrawn i c d
   plans p (inl rest) = absurd (not-nothing _ _ m.left (ap (λ (v : CourseView). v.left) p.planned) rest.0)
-  plans p (inr goes) = Takes.begins m may p goes
+  plans p (inr goes) = GoesOnWhenDrawn.begins m may p goes
 
-  notes : NotesTry i c m → HasActivated m d → Takes i c d
-  notes n (inl rest) = Takes.fails may (subst (NotesTry i c) (sym rest.1) n)
+  notes : NotesTry i c m → HasActivated m d → GoesOnWhenDrawn i c d
+  notes n (inl rest) = GoesOnWhenDrawn.fails may (subst (NotesTry i c) (sym rest.1) n)
   notes n (inr goes) = absurd (not-nothing goes.label d.left m.left goes.first (n.left ∙ none))
 
-  pub takes-tried : HasTried i c m None → HasActivated m d → Takes i c d
+  pub takes-tried : HasTried i c m None → HasActivated m d → GoesOnWhenDrawn i c d
   takes-tried (inl p) activated = plans p activated
   takes-tried (inr n) activated = notes n activated
 
 -- a value would be too high
-pub stops-tried : (i : ℕ) (c d : CourseView) (entry : Entry) → MayBegin i c → HasTried i c d (Some entry) → HasStoppedAt i c d (WeakStop.Tall entry)
+pub stops-tried : (i : ℕ) (c d : CourseView) (entry : Entry) → MayAttempt i c → HasTried i c d (Some entry) → HasStoppedAt i c d (WeakStop.Tall entry)
 stops-tried i c d entry may grown = record { stops = inr (may, grown.0); keeps = grown.1 }
 
 pub stops-free : (i : ℕ) (c d : CourseView) (entry : Entry) → is_growing_tall c.play.weak (Some i) ≡ true → entry ≡ tall_note i 0 [] → HasRunOut c d
@@ -126,9 +126,9 @@ stops-fault i device c d before after f h = record {
 
 pub draws-member : (number later i : ℕ) (c d : CourseView) (stop : Option WeakStop) → later ≡ number_after number → c.turns < c.limit → MayGoOn c → i ≡ drawn_by (number_after number) c
     → TakesOrStops i c d stop → DrawsOrEnds number later c d stop
-draws-member number later i c d None next turns may is takes = inl (record { number_is = next; turns = turns; may = may; takes = subst (λ (k : ℕ). Takes k c d) is takes })
+draws-member number later i c d None next turns may is takes = inl (record { number_is = next; turns = turns; may = may; takes = subst (λ (k : ℕ). GoesOnWhenDrawn k c d) is takes })
 draws-member number later i c d (Some stop) next turns may is s = λ running. record {
-  ends = EndsBy.drawn turns may (subst (λ (k : ℕ). StopsAt stop k c d.turns) is s.stops);
+  ends = EndsBy.drawn turns may (subst (λ (k : ℕ). StopsWhenDrawn stop k c d.turns) is s.stops);
   keeps = s.keeps;
 }
 

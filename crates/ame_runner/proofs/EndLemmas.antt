@@ -17,7 +17,7 @@ use Rattle.ame_shell.specs.Heard.{HaveHeard}
 use Rattle.ame_shell.proofs.HeardLemmas.{heard-nothing}
 use Rattle.ame_journal.specs.Totals.{total_steps}
 use Rattle.ame_weak.specs.Straight.{straight, outset}
-use Rattle.ame_runner.specs.Run.{CourseView, turns_of_tries, AreFailedTries, IsRunning, CanBeEnded, IsAtStart, KeepsFrame}
+use Rattle.ame_runner.specs.Run.{CourseView, turns_of_tries, AreFailedTries, IsRunning, CanBeEnded, IsAtRunStart, KeepsFrame}
 use Rattle.ame_runner.specs.Stop.{HasWeakCause, FailsBy, HeardSoFar, HasStoppedWeakly, RunsUntil}
 use Rattle.ame_runner.specs.Ended.{EndTries, IsWeakRunOf, notes_of_stop, IsCounted, IsToldBy, TellsStop}
 use Rattle.ame_runner.specs.declared.stop.WeakStop.{WeakStop}
@@ -272,7 +272,7 @@ module _ (r q : CourseView) (frame : KeepsFrame r q) where
       (subst (λ (m : ℕ). TellsStop q.play.program m labels tries turns before after stop) frame.limit is)
 
 -- of a run from its start
-module _ (program : Tree) (limit : ℕ) (r : CourseView) (start : IsAtStart program limit r) where
+module _ (program : Tree) (limit : ℕ) (r : CourseView) (start : IsAtRunStart program limit r) where
   same-program : r.play.program ≡ program
   same-program = ap (λ (p : PlayView). p.program) start.play
 

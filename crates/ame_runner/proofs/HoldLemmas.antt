@@ -39,7 +39,7 @@ use Rattle.ame_journal.specs.Labels.{fragment_labels}
 use Rattle.ame_runner.specs.Tall.{tall_note, IsTallIn, IsTallOf}
 use Rattle.ame_runner.specs.Within.{AreMadeWithin, IsTriedWithin, IsReachedWithin}
 use Rattle.ame_runner.specs.Trial.{IsTrial, StandsAs, IsTriedOut, is_failure, IsTryOf}
-use Rattle.ame_runner.specs.declared.trial.Outcome.{Outcome}
+use Rattle.ame_runner.specs.declared.trial.AttemptEnd.{AttemptEnd}
 use Rattle.ame_runner.specs.declared.trial.TriedOut.{TriedOut}
 
 module _ (signature : Signature) where
@@ -108,12 +108,12 @@ module _ (signature : Signature) where
     way-holds true stuck = way-fails (stuck refl)
     way-holds false stuck = ap is_some way-fragment.1
 
-stuck-where : (o : Outcome) (v : Weak) → StandsAs o v → is_failure o ≡ true → next_of v.state None ≡ next.Stuck
-stuck-where Outcome.Fails v stands e = stands
-stuck-where Outcome.Leaves v stands e = absurd (cc)
-stuck-where Outcome.Ends v stands e = absurd (cc)
-stuck-where Outcome.Tall v stands e = absurd (cc)
-stuck-where Outcome.Cut v stands e = absurd (cc)
+stuck-where : (o : AttemptEnd) (v : Weak) → StandsAs o v → is_failure o ≡ true → next_of v.state None ≡ next.Stuck
+stuck-where AttemptEnd.Fails v stands e = stands
+stuck-where AttemptEnd.Leaves v stands e = absurd (cc)
+stuck-where AttemptEnd.Ends v stands e = absurd (cc)
+stuck-where AttemptEnd.Tall v stands e = absurd (cc)
+stuck-where AttemptEnd.Cut v stands e = absurd (cc)
 
 module _ (devices : ℕ) (places : List ℕ) (program : Tree) (refs : List Typ) (accepts : Accepts devices places program refs) (source : IsSourceTerm program) (numbered : IsNumbered 0 program) where
   pub tried_fragments_hold : (labels : List Label) (w : Weak) (i first turns : ℕ) (a : TriedOut) (t : Try) → weak_run (weak_start program) labels ≡ Some w → w.state.active ≡ None
@@ -132,12 +132,12 @@ module _ (devices : ℕ) (places : List ℕ) (program : Tree) (refs : List Typ) 
 
   -- a fragment that came to a value that would be too high comes to it here, as its note says
   pub tried_grow_tall : (labels : List Label) (w : Weak) (i first turns : ℕ) (a : TriedOut) (entry : Entry) → weak_run (weak_start program) labels ≡ Some w
-      → AreWithinBounds (weak_start program) labels → w.state.active ≡ None → IsTriedOut w i first turns a → a.outcome ≡ Outcome.Tall → IsTallOf i a entry → IsTallIn w.state entry
+      → AreWithinBounds (weak_start program) labels → w.state.active ≡ None → IsTriedOut w i first turns a → a.outcome ≡ AttemptEnd.Tall → IsTallOf i a entry → IsTallIn w.state entry
   tried_grow_tall labels w i first turns a entry e within idle tried outcome is =
       let g = follow-labels (listed devices refs) (begun_at program) outset (weak_start program) w labels (begun-followed devices places program refs accepts source numbered) e in
       let way = way-of (listed devices refs) g.behind (past_all outset labels) w g.follows idle i first tried.behind a.kinds.items a.above tried.is in
       let low = labels_low w tried.behind (fragment_labels i a.kinds.items) tried.is.leads tried.is.within (labels_low (weak_start program) w labels e within (start_low program source)) in
-      let grows : is_growing_tall tried.behind None ≡ true = subst (λ (o : Outcome). StandsAs o tried.behind) outcome tried.comes in
+      let grows : is_growing_tall tried.behind None ≡ true = subst (λ (o : AttemptEnd). StandsAs o tried.behind) outcome tried.comes in
       let high = active_tall tried.behind i low way.laid.active grows in
       subst (IsTallIn w.state) (sym is)
       (record { note = refl; comes = way-tall (listed devices refs) w.state i (length a.kinds.items) (made_by a.kinds.items) tried.behind way high })

@@ -8,7 +8,7 @@ use Rattle.ame_weak.specs.declared.tries.Try.{Try}
 use Rattle.ame_runner.specs.Labels.{label_location, behind_location, location_above}
 use Rattle.ame_runner.specs.Play.{PlayView, IsPlayedWeakly, begun_play}
 use Rattle.ame_runner.specs.Notes.{lets_try_again, IsAsideSince, AreKept}
-use Rattle.ame_runner.specs.Run.{CourseView, turns_of_tries, IsOwn, AreSettled, AreFailedTries, CutAt, IsRunning, CanBeEnded, KeepsFrame, HasRun, RunsOrEnds}
+use Rattle.ame_runner.specs.Run.{CourseView, turns_of_tries, IsOwn, AreSettled, AreFailedTries, CutAt, IsRunning, CanBeEnded, KeepsFrame, HasMadeUncounted, RunsOrEnds}
 use Rattle.ame_runner.proofs.NoteLemmas.{all-with, kept-label}
 
 -- the try that was cut off was made where nothing was active
@@ -64,7 +64,7 @@ all-to P Q f xs ps = all-with P P Q (λ x p q. f x p) xs ps ps
 not-none : (label : Label) (labels : List Label) → label ∷ labels ≡ [] → ⊥
 not-none label labels e = let clash : suc (length labels) ≡ 0 = ap length e in omega arith
 
-module _ (r q : CourseView) (label : Label) (h : HasRun label r q) where
+module _ (r q : CourseView) (label : Label) (h : HasMadeUncounted label r q) where
   more-settled : IsPlayedWeakly r.play → r.play.settled ≤ q.play.settled
   more-settled played = by (is_none q.play.weak.state.active) h.made.settled
     where
@@ -136,7 +136,7 @@ running-begun r program played begun tries left above turns = record {
 }
 
 -- the answer of a label that isn't counted
-pub goes-on : {X E : Type 0} (s r q : CourseView) (label : Label) (a : Result X E) → IsRunning s → s ≡ record r { left = label ∷ r.left } → OnOk a (HasRun label r q) → OnErr a (q ≡ r)
+pub goes-on : {X E : Type 0} (s r q : CourseView) (label : Label) (a : Result X E) → IsRunning s → s ≡ record r { left = label ∷ r.left } → OnOk a (HasMadeUncounted label r q) → OnErr a (q ≡ r)
     → RunsOrEnds a q
 goes-on s r q label (Ok x) y is made err = runs-on r q label made s y is
 goes-on s r q label (Err e) y is made err = subst CanBeEnded (sym err) (ended-before s r (label ∷ r.left) y is)

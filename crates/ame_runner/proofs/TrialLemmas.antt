@@ -8,7 +8,7 @@ use Rattle.ame_journal.specs.Labels.{fresh_of, made_by, fragment_labels}
 use Rattle.ame_weak.specs.Weak.{Weak, weak_run}
 use Rattle.ame_weak.specs.Bounds.{AreWithinBounds}
 use Rattle.ame_runner.specs.Trial.{AreNext, IsTrial, HasTriedOn, StandsAs, IsDecided, last_turn, IsEndedAtLast, IsTriedOut}
-use Rattle.ame_runner.specs.declared.trial.Outcome.{Outcome}
+use Rattle.ame_runner.specs.declared.trial.AttemptEnd.{AttemptEnd}
 use Rattle.ame_runner.specs.declared.trial.TriedOut.{TriedOut}
 use Rattle.ame_runner.proofs.PlayLemmas.{run-more, within-more}
 
@@ -42,14 +42,14 @@ pub longer : (v : Weak) (kinds : List StepKind) (above : ℕ) (later : Weak) (mo
     → length more ≡ length kinds + 1
 longer v kinds above later more next_above g = ap length g.added ∙ length-append kinds (g.kind ∷ [])
 
-one-at-most : (o : Outcome) → last_turn o ≤ 1
-one-at-most Outcome.Leaves = omega arith
-one-at-most Outcome.Ends = omega arith
-one-at-most Outcome.Fails = omega arith
-one-at-most Outcome.Tall = omega arith
-one-at-most Outcome.Cut = omega arith
+one-at-most : (o : AttemptEnd) → last_turn o ≤ 1
+one-at-most AttemptEnd.Leaves = omega arith
+one-at-most AttemptEnd.Ends = omega arith
+one-at-most AttemptEnd.Fails = omega arith
+one-at-most AttemptEnd.Tall = omega arith
+one-at-most AttemptEnd.Cut = omega arith
 
-not-cut : (o : Outcome) → IsDecided o → o ≡ Outcome.Cut → ⊥
+not-cut : (o : AttemptEnd) → IsDecided o → o ≡ AttemptEnd.Cut → ⊥
 not-cut o d is = subst IsDecided is d
 
 module _ (w : Weak) (i first turns : ℕ) (v : Weak) (kinds : List StepKind) (above : ℕ) (a : TriedOut) (t : IsTrial w i first v kinds above) (same : a.kinds.items ≡ kinds)

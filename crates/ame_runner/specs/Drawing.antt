@@ -7,13 +7,13 @@ use Rattle.ame_journal.specs.declared.entry.Entry.{Entry}
 use Rattle.ame_weak.specs.declared.tries.Try.{Try}
 use Rattle.ame_runner.specs.Run.{CourseView, IsRunning}
 use Rattle.ame_runner.specs.Stop.{MayGoOn}
-use Rattle.ame_runner.specs.Drawn.{drawn_by, AddsLabel, GoesOn, PlansFragment, NotesTry, GrowsInAttempt, Takes, Course, StopsAt, EndsBy, IsDrawn}
+use Rattle.ame_runner.specs.Drawn.{drawn_by, AddsLabel, MakesNextLabel, PlansFragment, NotesTry, GrowsInAttempt, GoesOnWhenDrawn, Course, StopsWhenDrawn, EndsBy, IsDrawn}
 use Rattle.ame_runner.specs.declared.stop.WeakStop.{WeakStop}
 
 -- Labels
 
 -- a label of a resting member was made and counted
-pub record HasCounted (label : Label) (c d : CourseView) : Type 0 where
+pub record HasCountedTurn (label : Label) (c d : CourseView) : Type 0 where
   pub adds : AddsLabel label c d
   pub left : d.left ≡ c.left
   pub above : d.above ≡ max c.above d.play.above
@@ -22,7 +22,7 @@ pub record HasCounted (label : Label) (c d : CourseView) : Type 0 where
 -- labels of the active fragment were made, one after the other
 pub data RunsOn (c : CourseView) : CourseView → Type 0 where
   none : RunsOn c c
-  more : (m d : CourseView) → RunsOn c m → GoesOn m d → RunsOn c d
+  more : (m d : CourseView) → RunsOn c m → MakesNextLabel m d → RunsOn c d
 
 -- the active fragment made the labels that it was still to make
 pub record HasRunOut (c d : CourseView) : Type 0 where
@@ -31,7 +31,7 @@ pub record HasRunOut (c d : CourseView) : Type 0 where
 
 -- its first label was made, if there is one
 abbrev pub HasActivated : CourseView → CourseView → Type 0
-HasActivated c d = ((c.left ≡ []) × (d ≡ c)) ⊎ GoesOn c d
+HasActivated c d = ((c.left ≡ []) × (d ≡ c)) ⊎ MakesNextLabel c d
 
 -- what a run that has stopped keeps of the course before: with the labels that the active fragment was still to make
 pub record KeepsCourse (c d : CourseView) : Type 0 where
@@ -48,12 +48,12 @@ HasTried i c d (Some entry) = GrowsInAttempt i c d.turns entry × KeepsCourse c 
 
 -- member i was drawn, and has stopped the run
 pub record HasStoppedAt (i : ℕ) (c d : CourseView) (stop : WeakStop) : Type 0 where
-  pub stops : StopsAt stop i c d.turns
+  pub stops : StopsWhenDrawn stop i c d.turns
   pub keeps : KeepsCourse c d
 
 -- what a drawn member did, or the stop in its place
 abbrev pub TakesOrStops : ℕ → CourseView → CourseView → Option WeakStop → Type 0
-TakesOrStops i c d None = Takes i c d
+TakesOrStops i c d None = GoesOnWhenDrawn i c d
 TakesOrStops i c d (Some stop) = HasStoppedAt i c d stop
 
 -- the next number drew a member
@@ -61,7 +61,7 @@ pub record HasDrawn (number later : ℕ) (c d : CourseView) : Type 0 where
   pub number_is : later ≡ number_after number
   pub turns : c.turns < c.limit
   pub may : MayGoOn c
-  pub takes : Takes (drawn_by (number_after number) c) c d
+  pub takes : GoesOnWhenDrawn (drawn_by (number_after number) c) c d
 
 -- no number was drawn, since no turns are left
 pub record HasNotDrawn (number later : ℕ) (c d : CourseView) : Type 0 where

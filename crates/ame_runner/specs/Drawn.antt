@@ -15,12 +15,12 @@ use Rattle.ame_runner.specs.Choices.{goes_free, candidates}
 use Rattle.ame_runner.specs.Freeing.{MakesOnly, IsLabelOf}
 use Rattle.ame_runner.specs.Notes.{lets_try_again}
 use Rattle.ame_runner.specs.Play.{HasMadeLabel}
-use Rattle.ame_runner.specs.Run.{CourseView, IsAtStart}
+use Rattle.ame_runner.specs.Run.{CourseView, IsAtRunStart}
 use Rattle.ame_runner.specs.Stop.{MayGoOn}
 use Rattle.ame_runner.specs.Tall.{tall_note, IsTallOf}
 use Rattle.ame_runner.specs.Trial.{IsTriedOut, IsTryOf}
 use Rattle.ame_runner.specs.declared.stop.WeakStop.{WeakStop}
-use Rattle.ame_runner.specs.declared.trial.Outcome.{Outcome}
+use Rattle.ame_runner.specs.declared.trial.AttemptEnd.{AttemptEnd}
 use Rattle.ame_runner.specs.declared.trial.TriedOut.{TriedOut}
 
 -- the member that a number draws: it counts along the candidates, round and round
@@ -37,7 +37,7 @@ pub record AddsLabel (label : Label) (c d : CourseView) : Type 0 where
   pub limit : d.limit ≡ c.limit
 
 -- The active fragment makes its next label, whose turn was counted when the fragment was tried.
-pub record GoesOn (c d : CourseView) : Type 0 where
+pub record MakesNextLabel (c d : CourseView) : Type 0 where
   pub label : Label
   pub first : c.left ≡ label ∷ d.left
   pub adds : AddsLabel label c d
@@ -57,17 +57,17 @@ pub record StepsFree (i : ℕ) (c d : CourseView) : Type 0 where
 -- Attempts: the fragment of a member is run on a copy, with the turns that are left
 
 -- nothing is active, and member i isn't one that goes on under `unprotected`
-abbrev pub MayBegin : ℕ → CourseView → Type 0
-MayBegin i c = (c.play.weak.state.active ≡ None) × (goes_free c.play.weak i ≡ false)
+abbrev pub MayAttempt : ℕ → CourseView → Type 0
+MayAttempt i c = (c.play.weak.state.active ≡ None) × (goes_free c.play.weak i ≡ false)
 
 -- new locations are the least above all others, one after the other
 abbrev pub IsAttempt : ℕ → CourseView → TriedOut → Type 0
 IsAttempt i c tried = IsTriedOut c.play.weak i c.above (c.limit - c.turns) tried
 
 -- the label by which a fragment comes to its end, if it comes to one
-abbrev pub last_label : Outcome → Option Label
-last_label Outcome.Leaves = Some Label.Leave
-last_label Outcome.Ends = Some Label.End
+abbrev pub last_label : AttemptEnd → Option Label
+last_label AttemptEnd.Leaves = Some Label.Leave
+last_label AttemptEnd.Ends = Some Label.End
 last_label _ = None
 
 -- The fragment comes to its end. Its labels are to be made, and all its turns are counted.
@@ -78,8 +78,8 @@ pub record PlansFragment (i : ℕ) (c d : CourseView) : Type 0 where
   pub ends : last_label tried.outcome ≡ Some last
   pub planned : d ≡ record c { left = fragment_labels i tried.kinds.items ++ last ∷ []; above = tried.above; turns = c.turns + tried.turns }
 
-abbrev pub ComesToNothing : Outcome → Type 0
-ComesToNothing o = (o ≡ Outcome.Fails) ⊎ (o ≡ Outcome.Cut)
+abbrev pub ComesToNothing : AttemptEnd → Type 0
+ComesToNothing o = (o ≡ AttemptEnd.Fails) ⊎ (o ≡ AttemptEnd.Cut)
 
 -- A condition is false, or the turns are used up. The try is noted, and its turns are counted; a member whose condition is false is put aside.
 pub record NotesTry (i : ℕ) (c d : CourseView) : Type 0 where
@@ -100,19 +100,19 @@ pub record NotesTry (i : ℕ) (c d : CourseView) : Type 0 where
 -- Choices
 
 -- Member i goes on when it is drawn. A fragment that comes to its end makes its first label at once.
-pub data Takes (i : ℕ) (c d : CourseView) : Type 0 where
-  steps : StepsFree i c d → Takes i c d
-  goes_on : c.play.weak.state.active ≡ Some i → GoesOn c d → Takes i c d
-  begins : (m : CourseView) → MayBegin i c → PlansFragment i c m → GoesOn m d → Takes i c d
-  fails : MayBegin i c → NotesTry i c d → Takes i c d
+pub data GoesOnWhenDrawn (i : ℕ) (c d : CourseView) : Type 0 where
+  steps : StepsFree i c d → GoesOnWhenDrawn i c d
+  goes_on : c.play.weak.state.active ≡ Some i → MakesNextLabel c d → GoesOnWhenDrawn i c d
+  begins : (m : CourseView) → MayAttempt i c → PlansFragment i c m → MakesNextLabel m d → GoesOnWhenDrawn i c d
+  fails : MayAttempt i c → NotesTry i c d → GoesOnWhenDrawn i c d
 
 -- A course so far, and the number that was drawn last; the seed stands for the number before the first. As long as turns are left, the next
 -- number draws who goes on. With no turns left, the active fragment runs to its end.
 pub data Course (program : Tree) (limit seed : ℕ) : ℕ → CourseView → Type 0 where
-  starts : (c : CourseView) → IsAtStart program limit c → Course program limit seed seed c
-  draws : (number : ℕ) (c d : CourseView) → Course program limit seed number c → c.turns < c.limit → MayGoOn c → Takes (drawn_by (number_after number) c) c d
+  starts : (c : CourseView) → IsAtRunStart program limit c → Course program limit seed seed c
+  draws : (number : ℕ) (c d : CourseView) → Course program limit seed number c → c.turns < c.limit → MayGoOn c → GoesOnWhenDrawn (drawn_by (number_after number) c) c d
       → Course program limit seed (number_after number) d
-  runs_out : (number : ℕ) (c d : CourseView) → Course program limit seed number c → c.limit ≤ c.turns → GoesOn c d → Course program limit seed number d
+  runs_out : (number : ℕ) (c d : CourseView) → Course program limit seed number c → c.limit ≤ c.turns → MakesNextLabel c d → Course program limit seed number d
 
 -- Stops
 
@@ -127,7 +127,7 @@ RestsWith _ c = ⊥
 pub record GrowsInAttempt (i : ℕ) (c : CourseView) (turns : ℕ) (entry : Entry) : Type 0 where
   pub tried : TriedOut
   pub attempt : IsAttempt i c tried
-  pub tall : tried.outcome ≡ Outcome.Tall
+  pub tall : tried.outcome ≡ AttemptEnd.Tall
   pub note : IsTallOf i tried entry
   pub counted : turns ≡ c.turns + tried.turns
 
@@ -144,14 +144,14 @@ pub record CallsInVain (i device : ℕ) (c : CourseView) (turns : ℕ) : Type 0 
   pub counted : turns ≡ c.turns
 
 -- how member i stops the run when it is drawn
-abbrev pub StopsAt : WeakStop → ℕ → CourseView → ℕ → Type 0
-StopsAt (WeakStop.DeviceFault device) i c turns = CallsInVain i device c turns
-StopsAt (WeakStop.Tall entry) i c turns = GrowsFree i c turns entry ⊎ (MayBegin i c × GrowsInAttempt i c turns entry)
-StopsAt _ i c turns = ⊥
+abbrev pub StopsWhenDrawn : WeakStop → ℕ → CourseView → ℕ → Type 0
+StopsWhenDrawn (WeakStop.DeviceFault device) i c turns = CallsInVain i device c turns
+StopsWhenDrawn (WeakStop.Tall entry) i c turns = GrowsFree i c turns entry ⊎ (MayAttempt i c × GrowsInAttempt i c turns entry)
+StopsWhenDrawn _ i c turns = ⊥
 
 pub data EndsBy (number : ℕ) (c : CourseView) (turns : ℕ) (stop : WeakStop) : Type 0 where
   rests : c.left ≡ [] → RestsWith stop c → turns ≡ c.turns → EndsBy number c turns stop
-  drawn : c.turns < c.limit → MayGoOn c → StopsAt stop (drawn_by (number_after number) c) c turns → EndsBy number c turns stop
+  drawn : c.turns < c.limit → MayGoOn c → StopsWhenDrawn stop (drawn_by (number_after number) c) c turns → EndsBy number c turns stop
 
 -- Labels, tries and turns are those of the course to its end: what the active fragment is still to make is made.
 pub record IsDrawn (program : Tree) (limit seed : ℕ) (labels : List Label) (tries : List Try) (turns : ℕ) (stop : WeakStop) : Type 0 where

@@ -11,7 +11,7 @@ use Rattle.ame_strong.specs.Next.{next_of}
 use Rattle.ame_strong.specs.declared.next_label.Next.TheVariants as next
 use Rattle.ame_weak.specs.Weak.{Weak}
 use Rattle.ame_runner.specs.Labels.{label_location}
-use Rattle.ame_runner.specs.declared.freeing.Freed.{Freed}
+use Rattle.ame_runner.specs.declared.freeing.FreeStep.{FreeStep}
 
 -- a label calls no device, in whatever state
 abbrev pub IsSilent : Label → Type 0
@@ -39,9 +39,9 @@ abbrev pub MakesOnly : ℕ → Label → Type 0
 MakesOnly l label = (m : ℕ) → label_location label ≡ Some m → m ≡ l
 
 -- A member goes on by a label, which makes this location or none, or the device that it calls fails.
-abbrev pub HasFreed : Weak → ℕ → ℕ → List Told → List Told → Freed → Type 0
-HasFreed w i fresh before after (Freed.Label label) = MakesOnly fresh label × HasCalledFor w i before after label
-HasFreed w i fresh before after (Freed.Fault device) = FailsFor w i device before after
+abbrev pub HasFreed : Weak → ℕ → ℕ → List Told → List Told → FreeStep → Type 0
+HasFreed w i fresh before after (FreeStep.Label label) = MakesOnly fresh label × HasCalledFor w i before after label
+HasFreed w i fresh before after (FreeStep.Fault device) = FailsFor w i device before after
 
 -- a label is one by which member i goes on under `unprotected`
 abbrev pub IsLabelOf : ℕ → Label → Type 0
@@ -49,6 +49,6 @@ IsLabelOf i (Label.Close j) = j ≡ i
 IsLabelOf i (Label.Free j kind) = j ≡ i
 IsLabelOf i _ = ⊥
 
-abbrev pub IsOwnOf : ℕ → Freed → Type 0
-IsOwnOf i (Freed.Label label) = IsLabelOf i label
-IsOwnOf i (Freed.Fault device) = ⊤
+abbrev pub IsOwnOf : ℕ → FreeStep → Type 0
+IsOwnOf i (FreeStep.Label label) = IsLabelOf i label
+IsOwnOf i (FreeStep.Fault device) = ⊤

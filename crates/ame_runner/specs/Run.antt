@@ -66,7 +66,7 @@ pub record IsRunning (r : CourseView) : Type 0 where
   pub cut : AreFailedTries r.tries ⊎ IsCutNow r
 
 -- before the first label, with nothing counted
-pub record IsAtStart (program : Tree) (most : ℕ) (r : CourseView) : Type 0 where
+pub record IsAtRunStart (program : Tree) (most : ℕ) (r : CourseView) : Type 0 where
   pub play : r.play ≡ begun_play program
   pub tries : r.tries ≡ []
   pub left : r.left ≡ []
@@ -86,7 +86,7 @@ pub record CountsNothing (old new : CourseView) : Type 0 where
   pub tries : new.tries ≡ old.tries
 
 -- A label was made and not counted. No member is put aside any more, or the same members still are.
-pub record HasRun (label : Label) (old new : CourseView) : Type 0 where
+pub record HasMadeUncounted (label : Label) (old new : CourseView) : Type 0 where
   pub made : HasMadeLabel label old.play new.play
   pub played : IsPlayedWeakly old.play → IsPlayedWeakly new.play
   pub tries : new.tries ≡ old.tries

@@ -11,7 +11,7 @@ use Rattle.ame_weak.specs.Weak.{Weak, weak_after, weak_run}
 use Rattle.ame_weak.specs.Bounds.{IsWithinBounds, AreWithinBounds, is_growing_tall}
 use Rattle.ame_weak.specs.declared.tries.Try.{Try}
 use Rattle.ame_runner.specs.declared.trial.TriedOut.{TriedOut}
-use Rattle.ame_runner.specs.declared.trial.Outcome.{Outcome}
+use Rattle.ame_runner.specs.declared.trial.AttemptEnd.{AttemptEnd}
 
 -- the locations from one on, one after the other, up to the one before the last
 abbrev pub AreNext : ℕ → List ℕ → ℕ → Type 0
@@ -42,25 +42,25 @@ abbrev pub MayStep : Weak → Type 0
 MayStep v = (next_of v.state None ≢ next.Stuck) × (is_growing_tall v None ≡ false)
 
 -- the end of a fragment that was tried
-abbrev pub StandsAs : Outcome → Weak → Type 0
-StandsAs Outcome.Leaves v = is_some (after v.state Label.Leave) ≡ true
-StandsAs Outcome.Ends v = is_some (after v.state Label.End) ≡ true
-StandsAs Outcome.Fails v = next_of v.state None ≡ next.Stuck
-StandsAs Outcome.Tall v = is_growing_tall v None ≡ true
-StandsAs Outcome.Cut v = MayStep v
+abbrev pub StandsAs : AttemptEnd → Weak → Type 0
+StandsAs AttemptEnd.Leaves v = is_some (after v.state Label.Leave) ≡ true
+StandsAs AttemptEnd.Ends v = is_some (after v.state Label.End) ≡ true
+StandsAs AttemptEnd.Fails v = next_of v.state None ≡ next.Stuck
+StandsAs AttemptEnd.Tall v = is_growing_tall v None ≡ true
+StandsAs AttemptEnd.Cut v = MayStep v
 
 -- the fragment has come to its end, or can't go on
-abbrev pub IsDecided : Outcome → Type 0
-IsDecided Outcome.Cut = ⊥
+abbrev pub IsDecided : AttemptEnd → Type 0
+IsDecided AttemptEnd.Cut = ⊥
 IsDecided _ = ⊤
 
 -- the turn that its last label takes, if it has one
-abbrev pub last_turn : Outcome → ℕ
-last_turn Outcome.Leaves = 1
-last_turn Outcome.Ends = 1
-last_turn Outcome.Fails = 0
-last_turn Outcome.Tall = 0
-last_turn Outcome.Cut = 0
+abbrev pub last_turn : AttemptEnd → ℕ
+last_turn AttemptEnd.Leaves = 1
+last_turn AttemptEnd.Ends = 1
+last_turn AttemptEnd.Fails = 0
+last_turn AttemptEnd.Tall = 0
+last_turn AttemptEnd.Cut = 0
 
 -- Member i was tried from w, with new locations from the first on and with the turns that were left. Its activation, its
 -- steps and its last label took one each. It is cut off only if it has used them up.
@@ -70,7 +70,7 @@ pub record IsTriedOut (w : Weak) (i first turns : ℕ) (a : TriedOut) : Type 0 w
   pub comes : StandsAs a.outcome behind
   pub counted : a.turns ≡ length a.kinds.items + 1 + last_turn a.outcome
   pub within : a.turns ≤ turns
-  pub used : a.outcome ≡ Outcome.Cut → a.turns ≡ turns
+  pub used : a.outcome ≡ AttemptEnd.Cut → a.turns ≡ turns
 
 -- an attempt when the turns are used up
 pub record IsEndedAtLast (v : Weak) (kinds : List StepKind) (above turns : ℕ) (a : TriedOut) : Type 0 where
@@ -82,8 +82,8 @@ pub record IsEndedAtLast (v : Weak) (kinds : List StepKind) (above turns : ℕ) 
 
 -- Tries
 
-abbrev pub is_failure : Outcome → Bool
-is_failure Outcome.Fails = true
+abbrev pub is_failure : AttemptEnd → Bool
+is_failure AttemptEnd.Fails = true
 is_failure _ = false
 
 -- the try of an attempt of member i

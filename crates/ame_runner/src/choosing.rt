@@ -7,7 +7,7 @@ ghost use Rattle.ame_device.specs.declared.told.Told.{Told};
 ghost use Rattle.ame_weak.specs.Bounds.{is_growing_tall};
 
 use crate::choices::{drawn, goes_free};
-use crate::freeing::{Freed, next_free};
+use crate::freeing::{FreeStep, next_free};
 use crate::run::Run;
 use crate::stop::WeakStop;
 use crate::trial::tall_at;
@@ -220,11 +220,11 @@ impl<'a> Run<'a> {
         ensures taken { IfOk result (TakesOrStops number (run_of self.old) (run_of self.new)) }
     {
         match next_free(self.play.state(), Loc(self.above), number, devices)? {
-            Freed::Label(label) => {
+            FreeStep::Label(label) => {
                 self.count(alloc, label)?;
                 Ok(None)
             }
-            Freed::Fault(device) => {
+            FreeStep::Fault(device) => {
                 self.end_by(alloc, number, device)?;
                 Ok(Some(WeakStop::DeviceFault(device)))
             }

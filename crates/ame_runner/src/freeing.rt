@@ -15,7 +15,7 @@ use ame_weak::WeakState;
 
 /// The outcome of a step under `unprotected`.
 #[derive(Clone, Copy, PartialEq, Eq, Debug)]
-pub enum Freed {
+pub enum FreeStep {
     /// It makes this label.
     Label(Label),
     /// It calls this device, which fails.
@@ -29,17 +29,17 @@ pub fn next_free<D: Device>(
     above: Loc,
     number: u64,
     devices: &mut Vec<D>,
-) -> Result<Freed, NoMemory>
+) -> Result<FreeStep, NoMemory>
     ensures own { IfOk result (IsOwnOf number) }
     ensures count { length devices.new.items ≡ length devices.old.items }
     ensures freed { IfOk result (HasFreed (weak_of state.now) number above.0 (all_told D.device_told devices.old.items)
         (all_told D.device_told devices.new.items)) }
 {
     match state.next_of(Some(number)) {
-        Next::Close => Ok(Freed::Label(Label::Close(number))),
+        Next::Close => Ok(FreeStep::Label(Label::Close(number))),
         Next::Device(device, argument) => call_for(devices, number, device, argument),
         next => match kind_of(next, above) {
-            Some(kind) => Ok(Freed::Label(Label::Free(number, kind))),
+            Some(kind) => Ok(FreeStep::Label(Label::Free(number, kind))),
             None => Err(NoMemory),
         },
     }
@@ -51,7 +51,7 @@ fn call_for<D: Device>(
     number: u64,
     device: u8,
     argument: i64,
-) -> Result<Freed, NoMemory>
+) -> Result<FreeStep, NoMemory>
     ensures own { IfOk result (IsOwnOf number) }
     ensures count { length devices.new.items ≡ length devices.old.items }
     ensures freed { IfOk result (λ freed. (w : Weak) (above : ℕ) → next_of w.state (Some number) ≡ Next.Device device argument
@@ -63,8 +63,8 @@ fn call_for<D: Device>(
         return Err(NoMemory);
     }
     match call_device(devices, place, argument) {
-        Ok(answer) => Ok(Freed::Label(Label::Free(number, StepKind::Device(answer)))),
-        Err(DeviceFail::Failed) => Ok(Freed::Fault(device)),
+        Ok(answer) => Ok(FreeStep::Label(Label::Free(number, StepKind::Device(answer)))),
+        Err(DeviceFail::Failed) => Ok(FreeStep::Fault(device)),
         Err(DeviceFail::NoMemory) => Err(NoMemory),
     }
 }

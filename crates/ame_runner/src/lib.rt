@@ -15,10 +15,10 @@ mod theorems;
 mod trial;
 
 pub use choices::{candidates, drawn};
-pub use freeing::{Freed, next_free};
+pub use freeing::{FreeStep, next_free};
 pub use notes::Notes;
 pub use play::Play;
 pub use running::weak_run;
 pub use stop::{WeakRun, WeakStop};
 pub use theorems::{notes_stand_apart, tried_fragments_hold, turns_are_told};
-pub use trial::{Outcome, TriedOut, kind_of, note_of, try_member};
+pub use trial::{AttemptEnd, TriedOut, kind_of, note_of, try_member};

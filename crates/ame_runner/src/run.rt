@@ -7,7 +7,7 @@ ghost use Rattle.ame_journal.specs.Labels.{fragment_labels};
 
 use crate::notes::Notes;
 use crate::play::Play;
-use crate::trial::{Outcome, TriedOut, note_of, tall_of, try_member};
+use crate::trial::{AttemptEnd, TriedOut, note_of, tall_of, try_member};
 use ame_journal::Entry;
 use ame_term::{Accepted, Label, Loc, NoMemory, StepKind};
 use std::alloc::Global;
@@ -30,16 +30,16 @@ impl<'a> Run<'a> {
     ghost use Rattle.ame_runner.specs.Labels.{label_location, behind_location};
     ghost use Rattle.ame_runner.specs.Trial.{last_turn, IsTriedOut};
     ghost use Rattle.ame_runner.specs.Freeing.{MakesOnly};
-    ghost use Rattle.ame_runner.specs.Run.{IsOwn, HasRun, IsRunning, IsAtStart, KeepsFrame, CountsNothing, RunsOrEnds, CanBeEnded};
+    ghost use Rattle.ame_runner.specs.Run.{IsOwn, HasMadeUncounted, IsRunning, IsAtRunStart, KeepsFrame, CountsNothing, RunsOrEnds, CanBeEnded};
     ghost use Rattle.ame_runner.specs.Stop.{HearsOn, GrowsOrEnds, HasAttempted};
-    ghost use Rattle.ame_runner.specs.Drawn.{GoesOn, GrowsInAttempt, last_label};
-    ghost use Rattle.ame_runner.specs.Drawing.{HasCounted, HasRunOut, HasTried, KeepsCourse};
+    ghost use Rattle.ame_runner.specs.Drawn.{MakesNextLabel, GrowsInAttempt, last_label};
+    ghost use Rattle.ame_runner.specs.Drawing.{HasCountedTurn, HasRunOut, HasTried, KeepsCourse};
     ghost use Rattle.ame_runner.specs.View.{run_of};
 
     /// Returns a run before its first label, with this limit of turns.
     pub fn start(alloc: Global, accepted: &'a Accepted, limit: u32) -> Result<Run<'a>, NoMemory>
         ensures runs { IfOk result (λ run. IsRunning (run_of run)) }
-        ensures begins { IfOk result (λ run. IsAtStart (tree_of accepted.now.program.term) limit (run_of run)) }
+        ensures begins { IfOk result (λ run. IsAtRunStart (tree_of accepted.now.program.term) limit (run_of run)) }
     {
         Ok(Run {
             play: Play::start(alloc, accepted)?,
@@ -54,7 +54,7 @@ impl<'a> Run<'a> {
     /// Makes one label.
     fn make(&mut self, alloc: Global, label: Label) -> Result<(), NoMemory>
         ensures frame { KeepsFrame (run_of self.old) (run_of self.new) }
-        ensures made { OnOk result (HasRun label (run_of self.old) (run_of self.new)) }
+        ensures made { OnOk result (HasMadeUncounted label (run_of self.old) (run_of self.new)) }
         ensures err { OnErr result (run_of self.new ≡ run_of self.old) }
     {
         match self.play.make(alloc, label) {
@@ -73,7 +73,7 @@ impl<'a> Run<'a> {
         ensures hears { OnOk result ((told : List Told) → HearsOn None (run_of self.old) (run_of self.new) told told) }
         ensures counts { OnOk result (CountsNothing (run_of self.old) (run_of self.new)) }
         ensures left { OnOk result (length (run_of self.new).left + 1 ≡ length (run_of self.old).left) }
-        ensures goes { OnOk result (GoesOn (run_of self.old) (run_of self.new)) }
+        ensures goes { OnOk result (MakesNextLabel (run_of self.old) (run_of self.new)) }
     {
         match self.left.pop_front() {
             Some(label) => self.make(alloc, label),
@@ -102,7 +102,7 @@ impl<'a> Run<'a> {
         requires turns { (run_of self.old).turns < (run_of self.old).limit }
         ensures frame { KeepsFrame (run_of self.old) (run_of self.new) }
         ensures runs { IsRunning (run_of self.old) → RunsOrEnds result (run_of self.new) }
-        ensures counts { OnOk result (HasCounted label (run_of self.old) (run_of self.new)) }
+        ensures counts { OnOk result (HasCountedTurn label (run_of self.old) (run_of self.new)) }
     {
         self.make(alloc, label)?;
         self.above = self.above.max(self.play.fresh().0);
@@ -125,7 +125,7 @@ impl<'a> Run<'a> {
     {
         let turns = self.limit - self.turns;
         let tried = try_member(alloc, self.play.state(), Loc(self.above), number, turns)?;
-        if let Outcome::Tall = tried.outcome {
+        if let AttemptEnd::Tall = tried.outcome {
             let entry = self.grow(alloc, number, &tried)?;
             return Ok(Some(entry));
         }
@@ -138,7 +138,7 @@ impl<'a> Run<'a> {
         requires idle { (run_of self.old).play.weak.state.active ≡ None }
         requires free { (run_of self.old).aside number ≡ false }
         requires tried { IsTriedOut (run_of self.old).play.weak number (run_of self.old).above ((run_of self.old).limit - (run_of self.old).turns) tried.now }
-        requires low { tried.now.outcome ≡ Outcome.Tall → ⊥ }
+        requires low { tried.now.outcome ≡ AttemptEnd.Tall → ⊥ }
         requires turns { (run_of self.old).turns < (run_of self.old).limit }
         requires left { (run_of self.old).left ≡ [] }
         ensures frame { KeepsFrame (run_of self.old) (run_of self.new) }
@@ -147,9 +147,11 @@ impl<'a> Run<'a> {
         ensures tried { OnOk result (HasTried number (run_of self.old) (run_of self.new) None) }
     {
         match tried.outcome {
-            Outcome::Leaves => self.begin(number, tried, Label::Leave),
-            Outcome::Ends => self.begin(number, tried, Label::End),
-            Outcome::Fails | Outcome::Tall | Outcome::Cut => self.note(alloc, number, tried),
+            AttemptEnd::Leaves => self.begin(number, tried, Label::Leave),
+            AttemptEnd::Ends => self.begin(number, tried, Label::End),
+            AttemptEnd::Fails | AttemptEnd::Tall | AttemptEnd::Cut => self.note(
+                alloc, number, tried,
+            ),
         }
     }
 
@@ -157,7 +159,7 @@ impl<'a> Run<'a> {
     fn grow(&mut self, alloc: Global, number: u64, tried: &TriedOut) -> Result<Entry, NoMemory>
         requires idle { (run_of self.old).play.weak.state.active ≡ None }
         requires tried { IsTriedOut (run_of self.old).play.weak number (run_of self.old).above ((run_of self.old).limit - (run_of self.old).turns) tried.now }
-        requires tall { tried.now.outcome ≡ Outcome.Tall }
+        requires tall { tried.now.outcome ≡ AttemptEnd.Tall }
         requires turns { (run_of self.old).turns < (run_of self.old).limit }
         requires left { (run_of self.old).left ≡ [] }
         ensures frame { KeepsFrame (run_of self.old) (run_of self.new) }
@@ -193,7 +195,7 @@ impl<'a> Run<'a> {
 
     /// Notes a try that came to nothing.
     fn note(&mut self, alloc: Global, number: u64, tried: &TriedOut) -> Result<(), NoMemory>
-        requires low { tried.now.outcome ≡ Outcome.Tall → ⊥ }
+        requires low { tried.now.outcome ≡ AttemptEnd.Tall → ⊥ }
         requires idle { (run_of self.old).play.weak.state.active ≡ None }
         requires free { (run_of self.old).aside number ≡ false }
         requires tried { IsTriedOut (run_of self.old).play.weak number (run_of self.old).above ((run_of self.old).limit - (run_of self.old).turns) tried.now }

@@ -6,7 +6,7 @@ ghost use Rattle.ame_term.specs.View.{tree_of};
 ghost use Rattle.ame_device.specs.declared.told.Told.{Told};
 ghost use Rattle.ame_device.specs.Calls.{all_told};
 ghost use Rattle.ame_runner.specs.Ended.{IsWeakRunOf, TellsStop};
-ghost use Rattle.ame_runner.specs.Run.{IsRunning, IsAtStart};
+ghost use Rattle.ame_runner.specs.Run.{IsRunning, IsAtRunStart};
 ghost use Rattle.ame_runner.specs.Stop.{HeardSoFar};
 ghost use Rattle.ame_runner.specs.Drawn.{IsDrawn};
 ghost use Rattle.ame_runner.specs.View.{run_of};
@@ -52,7 +52,7 @@ fn play_out<D: Device>(alloc: Global, run: Run<'_>, seed: u32, devices: &mut Vec
         → HeardSoFar (run_of run.entry) (all_told D.device_told devices.old.items) (all_told D.device_told devices.old.items)
         → TellsStop (run_of run.entry).play.program (run_of run.entry).limit result.labels.items result.tries.items result.turns
         (all_told D.device_told devices.old.items) (all_told D.device_told devices.new.items) result.stop }
-    ensures drawn { (program : Tree) (limit : ℕ) → IsRunning (run_of run.entry) → IsAtStart program limit (run_of run.entry) → result.stop ≢ Stop.NoMemory
+    ensures drawn { (program : Tree) (limit : ℕ) → IsRunning (run_of run.entry) → IsAtRunStart program limit (run_of run.entry) → result.stop ≢ Stop.NoMemory
         → IsDrawn program limit seed result.labels.items result.tries.items result.turns result.stop }
 {
     let mut run = run;

@@ -10,7 +10,7 @@ ghost use Rattle.ame_strong.specs.Pool.{pool};
 use crate::choices::candidates;
 use crate::run::Run;
 use crate::stop::WeakStop;
-use crate::trial::{Outcome, note_of, try_member};
+use crate::trial::{AttemptEnd, note_of, try_member};
 use ame_journal::Certificate;
 use ame_term::{Loc, NoMemory, push};
 use std::alloc::Global;
@@ -125,7 +125,7 @@ impl<'a> Run<'a> {
     {
         let tried = try_member(alloc, self.play.state(), Loc(self.above), number, u32::MAX)?;
         match tried.outcome {
-            Outcome::Fails => {
+            AttemptEnd::Fails => {
                 let t = note_of(alloc, 0, number, &tried)?;
                 Ok(t.certificate)
             }

@@ -16,7 +16,7 @@ use Rattle.ame_protocol.specs.Event.Counting.{nothing_counted, one_invalid, one_
 use Rattle.ame_protocol.specs.Event.Event.{Event, Find, Reverse}
 use Rattle.ame_protocol.specs.Event.May.{May}
 use Rattle.ame_protocol.specs.Event.Runs.{Follows, entries_told, entries_along}
-use Rattle.ame_protocol.specs.Event.State.{State}
+use Rattle.ame_protocol.specs.Event.EngineState.{EngineState}
 use Rattle.ame_engine.specs.Ending.{End}
 use Rattle.ame_shell.specs.Ran.{IsStart, IsRanBy}
 
@@ -116,14 +116,14 @@ of_commits e = rans_in (entries_told e) + one (is_refused_commit e)
 abbrev of_allocs : Event → ℕ
 of_allocs e = one (is_alloc e)
 
-event-frees : (e : Event) (s : State) → (after e s).counters.frees ≡ s.counters.frees + of_frees e
+event-frees : (e : Event) (s : EngineState) → (after e s).counters.frees ≡ s.counters.frees + of_frees e
 event-frees (Event.TurnBack seat attempt (Reverse.Met l owner)) s = omega arith
 event-frees (Event.TurnBack seat attempt (Reverse.Stale find)) s = let same = invalid-frees find s.counters in omega (arith, same)
 event-frees (Event.Undo seat attempt) s = let same = undo-frees s.parts.stopped s.counters in omega (arith, same)
 event-frees (Event.Home seat attempt) s = let same = undo-frees s.parts.stopped s.counters in omega (arith, same)
 event-frees _ s = omega arith
 
-event-commits : (e : Event) (s : State) → (after e s).counters.commits ≡ s.counters.commits + of_commits e
+event-commits : (e : Event) (s : EngineState) → (after e s).counters.commits ≡ s.counters.commits + of_commits e
 event-commits (Event.TurnBack seat attempt (Reverse.Met l owner)) s = omega arith
 event-commits (Event.TurnBack seat attempt (Reverse.Stale Find.Check)) s = omega arith
 event-commits (Event.TurnBack seat attempt (Reverse.Stale Find.Commit)) s = omega arith
@@ -133,7 +133,7 @@ event-commits (Event.Undo seat attempt) s = let same = undo-commits s.parts.stop
 event-commits (Event.Home seat attempt) s = let same = undo-commits s.parts.stopped s.counters in omega (arith, same)
 event-commits _ s = omega arith
 
-event-allocs : (e : Event) (s : State) → (after e s).counters.allocs ≡ s.counters.allocs + of_allocs e
+event-allocs : (e : Event) (s : EngineState) → (after e s).counters.allocs ≡ s.counters.allocs + of_allocs e
 event-allocs (Event.TurnBack seat attempt (Reverse.Met l owner)) s = omega arith
 event-allocs (Event.TurnBack seat attempt (Reverse.Stale find)) s = let same = invalid-allocs find s.counters in omega (arith, same)
 event-allocs (Event.Undo seat attempt) s = let same = undo-allocs s.parts.stopped s.counters in omega (arith, same)
@@ -142,9 +142,9 @@ event-allocs _ s = omega arith
 
 -- And those of a run
 
-counted-along : (f : Counters → ℕ) (w : Event → ℕ) → ((e : Event) (s : State) → f (after e s).counters ≡ f s.counters + w e)
-    → (es : List Event) (s end : State) → Follows s es end → f end.counters ≡ f s.counters + sum_by w es
-counted-along f w each [] s end run = let same = ap (λ (x : State). f x.counters) run in omega (arith, same)
+counted-along : (f : Counters → ℕ) (w : Event → ℕ) → ((e : Event) (s : EngineState) → f (after e s).counters ≡ f s.counters + w e)
+    → (es : List Event) (s end : EngineState) → Follows s es end → f end.counters ≡ f s.counters + sum_by w es
+counted-along f w each [] s end run = let same = ap (λ (x : EngineState). f x.counters) run in omega (arith, same)
 counted-along f w each (e ∷ es) s end run =
     let rest = counted-along f w each es (after e s) end run.1 in
     let first = each e s in
@@ -166,8 +166,8 @@ sum-both a b (e ∷ es) =
     let rest = sum-both a b es in omega (arith, both, left, right, rest)
 
 along-both : (f : Counters → ℕ) (p : Entry → Bool) (q : Event → Bool)
-    → ((e : Event) (s : State) → f (after e s).counters ≡ f s.counters + (count_by p (entries_told e) + one (q e)))
-    → (es : List Event) (s end : State) → Follows s es end → f end.counters ≡ f s.counters + (count_by p (entries_along es) + count_by q es)
+    → ((e : Event) (s : EngineState) → f (after e s).counters ≡ f s.counters + (count_by p (entries_told e) + one (q e)))
+    → (es : List Event) (s end : EngineState) → Follows s es end → f end.counters ≡ f s.counters + (count_by p (entries_along es) + count_by q es)
 along-both f p q each es s end run =
     let all = counted-along f (λ (e : Event). count_by p (entries_told e) + one (q e)) each es s end run in
     let both = sum-both (λ (e : Event). count_by p (entries_told e)) (λ (e : Event). one (q e)) es in
@@ -178,7 +178,7 @@ along-both f p q each es s end run =
 some-none : (o : Option Stop) (why : Stop) → o ≡ Some why → o ≡ None → ⊥
 some-none o why is none = let clash : true ≡ false = sym (ap is_some is) ∙ ap is_some none in cc
 
-stopped-event : (e : Event) (s : State) (why : Stop) → s.stop ≡ Some why → May e s → (undoes e ≡ true) × ((after e s).stop ≡ s.stop)
+stopped-event : (e : Event) (s : EngineState) (why : Stop) → s.stop ≡ Some why → May e s → (undoes e ≡ true) × ((after e s).stop ≡ s.stop)
 stopped-event (Event.Undo seat attempt) s why is may = (refl, refl)
 stopped-event (Event.Home seat attempt) s why is may = (refl, refl)
 stopped-event (Event.Cut seat attempt steps place) s why is may = absurd (some-none s.stop why is may.0)
@@ -188,15 +188,15 @@ stopped-event _ s why is may = absurd (some-none s.stop why is may.0.going)
 abbrev pub OnlyUndo : List Event → Type 0
 OnlyUndo events = All (λ e. undoes e ≡ true) events
 
-then-undoes : (es : List Event) (s end : State) (why : Stop) → s.stop ≡ Some why → Follows s es end → OnlyUndo es × (end.stop ≡ s.stop)
-then-undoes [] s end why is run = (All-nil (λ (e : Event). undoes e ≡ true), ap (λ (x : State). x.stop) run)
+then-undoes : (es : List Event) (s end : EngineState) (why : Stop) → s.stop ≡ Some why → Follows s es end → OnlyUndo es × (end.stop ≡ s.stop)
+then-undoes [] s end why is run = (All-nil (λ (e : Event). undoes e ≡ true), ap (λ (x : EngineState). x.stop) run)
 then-undoes (e ∷ es) s end why is run =
     let first = stopped-event e s why is run.0 in
     let rest = then-undoes es (after e s) end why (first.1 ∙ is) run.1 in
     (All-cons (λ (x : Event). undoes x ≡ true) e es first.0 rest.0, rest.1 ∙ first.1)
 
 -- an event that keeps a stop keeps the one that it names
-kept-by : (e : Event) (s : State) → keeps_a_stop e ≡ true → ((why : Stop) × ((after e s).stop ≡ Some why)) × ((after e s).stop ≡ stop_after e None)
+kept-by : (e : Event) (s : EngineState) → keeps_a_stop e ≡ true → ((why : Stop) × ((after e s).stop ≡ Some why)) × ((after e s).stop ≡ stop_after e None)
 kept-by (Event.Refuse seat attempt device) s keeps = ((Stop.DeviceFault device, refl), refl)
 kept-by (Event.Cut seat attempt steps place) s keeps = ((Stop.Spent, refl), refl)
 kept-by (Event.Tall seat attempt steps place) s keeps = ((Stop.Tall attempt.tried.number, refl), refl)
@@ -204,7 +204,7 @@ kept-by (Event.Halt why) s keeps = ((why, refl), refl)
 kept-by _ s keeps = absurd (let clash : false ≡ true = keeps in cc)
 
 -- the others keep none
-kept-none : (e : Event) (s : State) → keeps_a_stop e ≡ false → (after e s).stop ≡ s.stop
+kept-none : (e : Event) (s : EngineState) → keeps_a_stop e ≡ false → (after e s).stop ≡ s.stop
 kept-none (Event.Refuse seat attempt device) s keeps = absurd (let clash : true ≡ false = keeps in cc)
 kept-none (Event.Cut seat attempt steps place) s keeps = absurd (let clash : true ≡ false = keeps in cc)
 kept-none (Event.Tall seat attempt steps place) s keeps = absurd (let clash : true ≡ false = keeps in cc)
@@ -216,11 +216,11 @@ pub record IsFirstStop (e : Event) (rest : List Event) (stop : Option Stop) : Ty
   pub undo : OnlyUndo rest
   pub stays : stop ≡ stop_after e None
 
-follows-split : (es rest : List Event) (s end : State) → Follows s (es ++ rest) end → (mid : State) × Follows s es mid × Follows mid rest end
+follows-split : (es rest : List Event) (s end : EngineState) → Follows s (es ++ rest) end → (mid : EngineState) × Follows s es mid × Follows mid rest end
 follows-split [] rest s end run = (s, refl, run)
 follows-split (e ∷ es) rest s end run = let more = follows-split es rest (after e s) end run.1 in (more.0, (run.0, more.1), more.2)
 
-stop-first : (before rest : List Event) (e : Event) (s end : State) → Follows s (before ++ e ∷ rest) end → keeps_a_stop e ≡ true → IsFirstStop e rest end.stop
+stop-first : (before rest : List Event) (e : Event) (s end : EngineState) → Follows s (before ++ e ∷ rest) end → keeps_a_stop e ≡ true → IsFirstStop e rest end.stop
 stop-first before rest e s end run keeps =
     let parts = follows-split before (e ∷ rest) s end run in
     let kept = kept-by e parts.0 keeps in
@@ -245,7 +245,7 @@ none-refused (e ∷ es) only =
 abbrev AreFaults : ℕ → Option Stop → Type 0
 AreFaults count stop = (count ≡ 0) ⊎ ((count ≡ 1) × (one_fault stop ≡ 1))
 
-faults-along : (es : List Event) (s end : State) → s.stop ≡ None → Follows s es end → AreFaults (count_by is_refusal es) end.stop
+faults-along : (es : List Event) (s end : EngineState) → s.stop ≡ None → Follows s es end → AreFaults (count_by is_refusal es) end.stop
 faults-along [] s end going run = inl refl
 faults-along (e ∷ es) s end going run = by (keeps_a_stop e) refl (λ still. faults-along es (after e s) end still run.1)
   where
@@ -283,8 +283,8 @@ faults-along (e ∷ es) s end going run = by (keeps_a_stop e) refl (λ still. fa
 abbrev pub OnlySeatsFail : List Event → Type 0
 OnlySeatsFail events = All (λ e. halts_for_device e ≡ false) events
 
-faults-exact : (es : List Event) (s end : State) → s.stop ≡ None → Follows s es end → OnlySeatsFail es → count_by is_refusal es ≡ one_fault end.stop
-faults-exact [] s end going run only = sym (ap one_fault (ap (λ (x : State). x.stop) run ∙ going))
+faults-exact : (es : List Event) (s end : EngineState) → s.stop ≡ None → Follows s es end → OnlySeatsFail es → count_by is_refusal es ≡ one_fault end.stop
+faults-exact [] s end going run only = sym (ap one_fault (ap (λ (x : EngineState). x.stop) run ∙ going))
 faults-exact (e ∷ es) s end going run only =
     by (keeps_a_stop e) refl
     (λ still. faults-exact es (after e s) end still run.1 (All-tail (λ (x : Event). halts_for_device x ≡ false) e es only))
@@ -337,9 +337,9 @@ pub record CountsKinds (events : List Event) (entries : List Entry) (counters : 
 
 module _ {V : Type 0} (program : Tree) (signature : Signature) (limits : Limits) (base : List Entry) (value : V → Val) (end : End V)
     (r : IsRanBy program signature limits base value end) where
-  start-counts : (s : State) → IsStart program signature limits base s → (s.counters ≡ nothing_counted) × (s.stop ≡ None)
-  start-counts s (inl fresh) = (ap (λ (x : State). x.counters) fresh.1, ap (λ (x : State). x.stop) fresh.1)
-  start-counts s (inr on) = (ap (λ (x : State). x.counters) on.state, ap (λ (x : State). x.stop) on.state)
+  start-counts : (s : EngineState) → IsStart program signature limits base s → (s.counters ≡ nothing_counted) × (s.stop ≡ None)
+  start-counts s (inl fresh) = (ap (λ (x : EngineState). x.counters) fresh.1, ap (λ (x : EngineState). x.stop) fresh.1)
+  start-counts s (inr on) = (ap (λ (x : EngineState). x.counters) on.state, ap (λ (x : EngineState). x.stop) on.state)
 
   pub kinds-counted : CountsKinds r.events end.entries end.counters end.stop
   kinds-counted =

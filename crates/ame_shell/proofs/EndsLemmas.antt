@@ -15,7 +15,7 @@ use Rattle.ame_rows.specs.LettingGo.{undone_last}
 use Rattle.ame_rows.proofs.LookupLemmas.{row_set_else}
 use Rattle.ame_machine.specs.MachineView.{MachineView}
 use Rattle.ame_protocol.specs.declared.types.Attempt.{Attempt}
-use Rattle.ame_protocol.specs.declared.types.Reason.{Reason}
+use Rattle.ame_protocol.specs.declared.types.UndoReason.{UndoReason}
 use Rattle.ame_protocol.specs.declared.types.Task.{Task}
 use Rattle.ame_protocol.specs.Engine.Parts.{Parts, task_at, member_of, term_at, working}
 use Rattle.ame_protocol.specs.Engine.Simulates.{Simulates}
@@ -60,19 +60,19 @@ turn-pool parts = by parts.stopped
     by false = refl
 
 -- a member that goes home keeps its term
-pub term-home : (reason : Reason) (n number : ℕ) (pool : Roster Tree) → term_at (brought_home reason n pool) number ≡ term_at pool number
-term-home Reason.RolledBack n number pool =
+pub term-home : (reason : UndoReason) (n number : ℕ) (pool : Roster Tree) → term_at (brought_home reason n pool) number ≡ term_at pool number
+term-home UndoReason.RolledBack n number pool =
     ap (λ (o : Option Tree). unwrap_or o unit_tree)
     (machines-stay n (at_home true) pool.members (home n true pool).members (found_altered n (at_home true) (λ _. refl) pool.members) (λ _. refl) (λ _. refl) number)
-term-home Reason.Noted n number pool =
+term-home UndoReason.Noted n number pool =
     ap (λ (o : Option Tree). unwrap_or o unit_tree)
     (machines-stay n at_rest pool.members (parked n pool).members (found_altered n at_rest (λ _. refl) pool.members) (λ _. refl) (λ _. refl) number)
-term-home Reason.Stopped n number pool =
+term-home UndoReason.Stopped n number pool =
     ap (λ (o : Option Tree). unwrap_or o unit_tree)
     (machines-stay n (at_home false) pool.members (home n false pool).members (found_altered n (at_home false) (λ _. refl) pool.members) (λ _. refl) (λ _. refl) number)
 
 module _ (parts : Parts) (seat other : ℕ) (s : MachineView) (apart : other ≢ seat) (on : IsLowOnSeat parts other s) where
-  pub undone-others : (attempt : Attempt) (reason : Reason) → IsLowOnSeat (has_undone seat attempt reason parts) other s
+  pub undone-others : (attempt : Attempt) (reason : UndoReason) → IsLowOnSeat (has_undone seat attempt reason parts) other s
   undone-others attempt reason =
       let mid = with_task seat (Task.Undoing attempt reason) (with_memory (undone_last seat parts.memory) parts) in
       stays-on parts (has_undone seat attempt reason parts) other s
@@ -80,7 +80,7 @@ module _ (parts : Parts) (seat other : ℕ) (s : MachineView) (apart : other ≢
       (ap (λ (d : MemoryView Val). row_at d.rows other) (turn-memory mid) ∙ row_set_else parts.memory.rows seat other _ apart)
       (λ a e. ap (λ (pool : Roster Tree). term_at pool a.tried.number) (turn-pool mid)) on
 
-  pub gone-others : (attempt : Attempt) (reason : Reason) → IsLowOnSeat (has_gone_home seat attempt reason parts) other s
+  pub gone-others : (attempt : Attempt) (reason : UndoReason) → IsLowOnSeat (has_gone_home seat attempt reason parts) other s
   gone-others attempt reason =
       let mid = with_task seat Task.Idle (record parts {
         memory = undone_last seat parts.memory;

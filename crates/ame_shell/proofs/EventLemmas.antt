@@ -17,7 +17,7 @@ use Rattle.ame_protocol.specs.Engine.Simulates.{Simulates}
 use Rattle.ame_protocol.specs.Event.After.{after}
 use Rattle.ame_protocol.specs.Event.Event.{Event}
 use Rattle.ame_protocol.specs.Event.Runs.{Follows}
-use Rattle.ame_protocol.specs.Event.State.{State}
+use Rattle.ame_protocol.specs.Event.EngineState.{EngineState}
 use Rattle.ame_engine.specs.Core.{Core}
 use Rattle.ame_engine.specs.Seen.{parts_of}
 use Rattle.ame_engine.specs.Visiting.{VisitsTo}
@@ -30,8 +30,8 @@ use Rattle.ame_shell.specs.Outcomes.{IsOutcomeOf}
 use Rattle.ame_shell.proofs.WorkLemmas.{running-low, stepped-low, visited-low}
 
 -- one event more
-pub low-more : (es : List Event) (s mid : State) (e : Event) → Follows s es mid → GoLow s es → GoesLowBy e mid.parts → GoLow s (es ++ e ∷ [])
-low-more [] s mid e run low one = (subst (λ (x : State). GoesLowBy e x.parts) run one, tt)
+pub low-more : (es : List Event) (s mid : EngineState) (e : Event) → Follows s es mid → GoLow s es → GoesLowBy e mid.parts → GoLow s (es ++ e ∷ [])
+low-more [] s mid e run low one = (subst (λ (x : EngineState). GoesLowBy e x.parts) run one, tt)
 low-more (x ∷ xs) s mid e run low one = (low.0, low-more xs (after x s) mid e run.1 low.1 one)
 
 -- a step that a machine wants is at no such form, unless it wants that one

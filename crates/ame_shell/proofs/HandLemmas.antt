@@ -15,7 +15,7 @@ use Rattle.ame_machine.specs.Input.{value_set, value_to_set}
 use Rattle.ame_machine.specs.Comes.{HasNextAct}
 use Rattle.ame_machine.proofs.NeedLemmas.{comes_as}
 use Rattle.ame_protocol.specs.declared.types.Attempt.{Attempt}
-use Rattle.ame_protocol.specs.declared.types.Reason.{Reason}
+use Rattle.ame_protocol.specs.declared.types.UndoReason.{UndoReason}
 use Rattle.ame_protocol.specs.declared.types.Task.{Task}
 use Rattle.ame_protocol.specs.Engine.Parts.{Parts, task_at, attempt_of, term_at, working}
 use Rattle.ame_protocol.specs.Engine.Events.{has_turned_back, with_memory, with_task, with_try, brought_home, has_undone, has_gone_home}
@@ -124,24 +124,24 @@ module _ {C V M : Type 0} (meaning : Meaning C V M)
       ap (λ (p : Parts). task_at p.tasks seat) makes.parts ∙ ap (λ (ts : List Task). task_at ts seat) same
       ∙ task_here old.tasks seat task (seat_within old.tasks seat a has)
 
-  undoing-fits : (a : Attempt) (reason : Reason) → task_at new.tasks seat ≡ Task.Undoing a reason → CanUndo new seat
+  undoing-fits : (a : Attempt) (reason : UndoReason) → task_at new.tasks seat ≡ Task.Undoing a reason → CanUndo new seat
   undoing-fits a reason is = record { busy = ap (λ (t : Task). is_some (attempt_of t)) is; undoes = λ _. ap is_undoing is }
 
   -- it turned back
   pub back-fits : (counts : Counters → Counters) (a : Attempt) → task_at old.tasks seat ≡ Task.Running a → Makes counts (has_turned_back seat a) → CanUndo new seat
   back-fits counts a task makes =
-      undoing-fits a Reason.RolledBack
-      (after-task counts (has_turned_back seat a) (Task.Undoing a Reason.RolledBack) makes refl a (ap attempt_of task))
+      undoing-fits a UndoReason.RolledBack
+      (after-task counts (has_turned_back seat a) (Task.Undoing a UndoReason.RolledBack) makes refl a (ap attempt_of task))
 
   -- its member was noted
   pub noted-fits : (counts : Counters → Counters) (a : Attempt) (steps : ℕ) (p : LocalState) → task_at old.tasks seat ≡ Task.Running a
       → Makes counts (has_noted seat a steps p) → CanUndo new seat
   noted-fits counts a steps p task makes =
-      undoing-fits (record a { logged = true }) Reason.Noted
-      (after-task counts (has_noted seat a steps p) (Task.Undoing (record a { logged = true }) Reason.Noted) makes refl a (ap attempt_of task))
+      undoing-fits (record a { logged = true }) UndoReason.Noted
+      (after-task counts (has_noted seat a steps p) (Task.Undoing (record a { logged = true }) UndoReason.Noted) makes refl a (ap attempt_of task))
 
   -- it undid an entry
-  pub undid-fits : (counts : Counters → Counters) (a : Attempt) (reason : Reason) → attempt_of (task_at old.tasks seat) ≡ Some a
+  pub undid-fits : (counts : Counters → Counters) (a : Attempt) (reason : UndoReason) → attempt_of (task_at old.tasks seat) ≡ Some a
       → Makes counts (has_undone seat a reason) → CanUndo new seat
   undid-fits counts a reason has makes =
       undoing-fits a reason
@@ -149,7 +149,7 @@ module _ {C V M : Type 0} (meaning : Meaning C V M)
       (turn-tasks (with_task seat (Task.Undoing a reason) (with_memory (undone_last seat parts.memory) parts))) a has)
 
   -- its member went home
-  pub home-fits : (counts : Counters → Counters) (a : Attempt) (reason : Reason) → attempt_of (task_at old.tasks seat) ≡ Some a
+  pub home-fits : (counts : Counters → Counters) (a : Attempt) (reason : UndoReason) → attempt_of (task_at old.tasks seat) ≡ Some a
       → Makes counts (has_gone_home seat a reason) → task_at new.tasks seat ≡ Task.Idle
   home-fits counts a reason has makes =
       after-task counts (has_gone_home seat a reason) Task.Idle makes

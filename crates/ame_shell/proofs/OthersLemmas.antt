@@ -14,7 +14,7 @@ use Rattle.ame_machine.specs.MachineView.{MachineView, running_side, OnRun}
 use Rattle.ame_machine.specs.Move.{GoesLow}
 use Rattle.ame_machine.specs.Run.Local.{begun_with}
 use Rattle.ame_protocol.specs.declared.types.Attempt.{Attempt}
-use Rattle.ame_protocol.specs.declared.types.Reason.{Reason}
+use Rattle.ame_protocol.specs.declared.types.UndoReason.{UndoReason}
 use Rattle.ame_protocol.specs.declared.types.Task.{Task}
 use Rattle.ame_protocol.specs.Engine.Parts.{Parts, task_at, term_at, working}
 use Rattle.ame_protocol.specs.Engine.Events.{fresh_attempt, begun_task, has_begun, has_read, has_written, has_allocated, checked_attempt, has_checked, has_turned_back}
@@ -76,4 +76,4 @@ module _ (parts : Parts) (seat other : ℕ) (s : MachineView) (apart : other ≢
   pub back-others : (attempt : Attempt) → IsLowOnSeat (has_turned_back seat attempt parts) other s
   back-others attempt =
       stays-on parts (has_turned_back seat attempt parts) other s
-      (task_else parts.tasks seat (Task.Undoing attempt Reason.RolledBack) other apart) refl (λ a e. refl) on
+      (task_else parts.tasks seat (Task.Undoing attempt UndoReason.RolledBack) other apart) refl (λ a e. refl) on

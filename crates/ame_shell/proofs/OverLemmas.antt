@@ -9,7 +9,7 @@ use Rattle.ame_journal.specs.declared.entry.Entry.{Entry}
 use Rattle.ame_protocol.specs.declared.types.Limits.{Limits}
 use Rattle.ame_protocol.specs.Engine.Parts.{Parts}
 use Rattle.ame_protocol.specs.Engine.Events.{started}
-use Rattle.ame_protocol.specs.Event.State.{started_state}
+use Rattle.ame_protocol.specs.Event.EngineState.{started_state}
 use Rattle.ame_protocol.specs.declared.stop.Stop.{Stop}
 use Rattle.ame_engine.specs.Core.{Core}
 use Rattle.ame_engine.specs.Ending.{End, end_of, IsEnd}

@@ -17,7 +17,7 @@ use Rattle.ame_protocol.specs.Event.After.{after}
 use Rattle.ame_protocol.specs.Event.Causes.{IsCause, certificates_for, is_from_outside}
 use Rattle.ame_protocol.specs.Event.Event.{Event}
 use Rattle.ame_protocol.specs.Event.Runs.{Follows, entries_along}
-use Rattle.ame_protocol.specs.Event.State.{State}
+use Rattle.ame_protocol.specs.Event.EngineState.{EngineState}
 use Rattle.ame_protocol.proofs.Event.BoundLemmas.{outside-leaves}
 use Rattle.ame_protocol.proofs.Event.RunLemmas.{follows-more, run-tells}
 use Rattle.ame_engine.specs.Core.{Core}
@@ -37,35 +37,35 @@ use Rattle.ame_shell.proofs.EventLemmas.{low-more, outcome-low}
 
 -- While no stop is kept no certificate is there
 
-event-going : (e : Event) (s : State) → (after e s).stop ≡ None → s.stop ≡ None
+event-going : (e : Event) (s : EngineState) → (after e s).stop ≡ None → s.stop ≡ None
 event-going (Event.Refuse seat attempt device) s none = absurd (cc)
 event-going (Event.Cut seat attempt steps place) s none = absurd (cc)
 event-going (Event.Tall seat attempt steps place) s none = absurd (cc)
 event-going (Event.Halt why) s none = absurd (cc)
 event-going _ s none = none
 
-run-going : (es : List Event) (s end : State) → Follows s es end → end.stop ≡ None → s.stop ≡ None
-run-going [] s end run none = ap (λ (x : State). x.stop) (sym run) ∙ none
+run-going : (es : List Event) (s end : EngineState) → Follows s es end → end.stop ≡ None → s.stop ≡ None
+run-going [] s end run none = ap (λ (x : EngineState). x.stop) (sym run) ∙ none
 run-going (e ∷ es) s end run none = event-going e s (run-going es (after e s) end run.1 none)
 
-event-untold : (e : Event) (s : State) → (after e s).stop ≡ None → (after e s).certificates ≡ s.certificates
+event-untold : (e : Event) (s : EngineState) → (after e s).stop ≡ None → (after e s).certificates ≡ s.certificates
 event-untold (Event.Halt why) s none = absurd (cc)
 event-untold _ s none = refl
 
-run-untold : (es : List Event) (s end : State) → Follows s es end → end.stop ≡ None → end.certificates ≡ s.certificates
-run-untold [] s end run none = ap (λ (x : State). x.certificates) run
+run-untold : (es : List Event) (s end : EngineState) → Follows s es end → end.stop ≡ None → end.certificates ≡ s.certificates
+run-untold [] s end run none = ap (λ (x : EngineState). x.certificates) run
 run-untold (e ∷ es) s end run none = run-untold es (after e s) end run.1 none ∙ event-untold e s (run-going es (after e s) end run.1 none)
 
 -- A start has no entry yet, and no certificate is there
 
-module _ (program : Tree) (signature : Signature) (limits : Limits) (base : List Entry) (s : State) where
+module _ (program : Tree) (signature : Signature) (limits : Limits) (base : List Entry) (s : EngineState) where
   start-untold : IsStart program signature limits base s → s.certificates ≡ []
-  start-untold (inl fresh) = ap (λ (x : State). x.certificates) fresh.1
-  start-untold (inr on) = ap (λ (x : State). x.certificates) on.state
+  start-untold (inl fresh) = ap (λ (x : EngineState). x.certificates) fresh.1
+  start-untold (inr on) = ap (λ (x : EngineState). x.certificates) on.state
 
   start-empty : IsStart program signature limits base s → s.parts.entries ≡ []
-  start-empty (inl fresh) = ap (λ (x : State). x.parts.entries) fresh.1
-  start-empty (inr on) = ap (λ (x : State). x.parts.entries) on.state
+  start-empty (inl fresh) = ap (λ (x : EngineState). x.parts.entries) fresh.1
+  start-empty (inr on) = ap (λ (x : EngineState). x.parts.entries) on.state
 
 -- Stops that come from outside
 
@@ -90,7 +90,7 @@ module _ {C V M : Type 0} (meaning : Meaning C V M) (opening : Opening C) where
     starts = h.starts;
     events = h.events ++ e ∷ [];
     follows =
-        subst (λ (s : State). Follows h.start (h.events ++ e ∷ []) s) (sym m.state)
+        subst (λ (s : EngineState). Follows h.start (h.events ++ e ∷ []) s) (sym m.state)
         (follows-more h.events h.start (state_of meaning old) e h.follows m.may);
     low = low-more h.events h.start (state_of meaning old) e h.follows h.low low;
   }
@@ -101,7 +101,7 @@ module _ {C V M : Type 0} (meaning : Meaning C V M) (opening : Opening C) where
     start = h.start;
     starts = h.starts;
     events = h.events;
-    follows = subst (λ (s : State). Follows h.start h.events s) same h.follows;
+    follows = subst (λ (s : EngineState). Follows h.start h.events s) same h.follows;
     low = h.low;
   }
 

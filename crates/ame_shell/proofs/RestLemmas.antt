@@ -8,7 +8,7 @@ use Rattle.ame_rows.specs.declared.notes.Bad.{Bad}
 use Rattle.ame_machine.specs.MachineView.{MachineView, place_shown, with_answer}
 use Rattle.ame_protocol.specs.declared.types.Limits.{Limits}
 use Rattle.ame_protocol.specs.declared.types.Attempt.{Attempt}
-use Rattle.ame_protocol.specs.declared.types.Reason.{Reason}
+use Rattle.ame_protocol.specs.declared.types.UndoReason.{UndoReason}
 use Rattle.ame_protocol.specs.declared.types.Task.{Task}
 use Rattle.ame_protocol.specs.Engine.Parts.{Parts, task_at, attempt_of, member_of}
 use Rattle.ame_protocol.specs.Engine.Simulates.{Simulates}
@@ -155,7 +155,7 @@ module _ {C V M : Type 0} (meaning : Meaning C V M) where
     back-leaves : (counts : Counters → Counters) (a : Attempt) → MakesEvent meaning counts (has_turned_back seat a) old new → Leaves seat old new
     back-leaves counts a makes =
         by-event counts (has_turned_back seat a) makes refl (λ other else. (
-          task_else old.tasks seat (Task.Undoing a Reason.RolledBack) other else,
+          task_else old.tasks seat (Task.Undoing a UndoReason.RolledBack) other else,
           λ s on. back-others (parts old) seat other s else on a,
         ))
 
@@ -231,7 +231,7 @@ module _ {C V M : Type 0} (meaning : Meaning C V M) where
     row-leaves hand before after (Outcome.Refused bad) d = turned-leaves old new seat hand (one_invalid Counted.Commit) bad d.2
     row-leaves hand before after Outcome.Noted d =
         by-event old new seat (one_counted Counted.Block) (has_noted seat d.2 d.0.steps (place_shown d.0)) d.4 refl (λ other else. (
-          task_else old.tasks seat (Task.Undoing (record d.2 { logged = true }) Reason.Noted) other else,
+          task_else old.tasks seat (Task.Undoing (record d.2 { logged = true }) UndoReason.Noted) other else,
           λ s on. noted-others (parts old) seat other s else on d.2 d.0.steps (place_shown d.0),
         ))
     row-leaves hand before after (Outcome.NotNoted bad) d = turned-leaves old new seat hand (one_invalid Counted.Block) bad d.2

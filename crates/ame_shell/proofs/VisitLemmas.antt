@@ -8,7 +8,7 @@ use Rattle.ame_term.specs.Act.{Act}
 use Rattle.ame_device.specs.declared.told.Told.{Told}
 use Rattle.ame_journal.specs.Calls.{device_calls}
 use Rattle.ame_rows.specs.MemoryView.{MemoryView}
-use Rattle.ame_protocol.specs.Row.SeatRun.{StandsAt}
+use Rattle.ame_protocol.specs.Row.SeatRun.{IsAtAct}
 use Rattle.ame_machine.specs.declared.wants.Wants.TheVariants as wants
 use Rattle.ame_machine.specs.MachineView.{MachineView, place_shown, with_answer}
 use Rattle.ame_machine.specs.Need.{Need, need_of, need_told}
@@ -48,7 +48,7 @@ module _ (parts : Parts) (stands : Simulates parts) (seat : ℕ) (s : MachineVie
     next-act : HasNextAct s (Act.Calls device argument)
     next-act = (comes_as s (Need.Device device argument) need-there).1
 
-    stands-at : StandsAt Side.Unprotected (Act.Calls device argument) (place_shown s)
+    stands-at : IsAtAct Side.Unprotected (Act.Calls device argument) (place_shown s)
     stands-at = record {
       redex = next-act.0;
       stands = next-act.1 ∙ ap (λ (z : Side). Focus.AtRedex z next-act.0) (ap side_told inside);

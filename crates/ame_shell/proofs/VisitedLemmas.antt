@@ -11,7 +11,7 @@ use Rattle.ame_rows.specs.MemoryView.{Log, MemoryView, row_at}
 use Rattle.ame_protocol.specs.Row.Waiting.{read_places}
 use Rattle.ame_machine.specs.MachineView.{MachineView}
 use Rattle.ame_protocol.specs.declared.types.Attempt.{Attempt}
-use Rattle.ame_protocol.specs.declared.types.Reason.{Reason}
+use Rattle.ame_protocol.specs.declared.types.UndoReason.{UndoReason}
 use Rattle.ame_protocol.specs.declared.types.Task.{Task}
 use Rattle.ame_protocol.specs.Engine.Parts.{Parts, task_at, member_of, term_at, working}
 use Rattle.ame_protocol.specs.Engine.Simulates.{Simulates}
@@ -39,7 +39,7 @@ module _ (parts : Parts) (seat other : ℕ) (s : MachineView) (apart : other ≢
   pub noted-others : (attempt : Attempt) (steps : ℕ) (p : LocalState) → IsLowOnSeat (has_noted seat attempt steps p parts) other s
   noted-others attempt steps p =
       stays-on parts (has_noted seat attempt steps p parts) other s
-      (task_else parts.tasks seat (Task.Undoing (record attempt { logged = true }) Reason.Noted) other apart) refl
+      (task_else parts.tasks seat (Task.Undoing (record attempt { logged = true }) UndoReason.Noted) other apart) refl
       (λ a e. term-noted a.tried.number attempt.tried.number (read_places (row_at parts.memory.rows seat).reads) parts.pool) on
 
   pub cut-others : (number steps : ℕ) (p : LocalState) (task : Task) → IsLowOnSeat (has_been_cut seat number steps p task parts) other s
@@ -53,7 +53,7 @@ module _ (parts : Parts) (seat other : ℕ) (s : MachineView) (apart : other ≢
   pub refused-others : (number : ℕ) → IsLowOnSeat (has_been_refused seat number parts) other s
   refused-others number =
       stays-on parts (has_been_refused seat number parts) other s (task_else parts.tasks seat Task.Idle other apart) refl
-      (λ a e. term-home Reason.Stopped number a.tried.number parts.pool) on
+      (λ a e. term-home UndoReason.Stopped number a.tried.number parts.pool) on
 
 -- a visit leaves the logs of seats
 act-rows : (act : Act) (memory : MemoryView Val) → (memory_after act memory).rows ≡ memory.rows

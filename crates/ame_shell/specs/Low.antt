@@ -9,7 +9,7 @@ use Rattle.ame_protocol.specs.declared.types.Attempt.{Attempt}
 use Rattle.ame_protocol.specs.declared.types.Task.{Task}
 use Rattle.ame_protocol.specs.Row.SeatRun.{SeatRun}
 use Rattle.ame_protocol.specs.Engine.Parts.{Parts, task_at, term_at, run_in}
-use Rattle.ame_protocol.specs.Event.State.{State}
+use Rattle.ame_protocol.specs.Event.EngineState.{EngineState}
 use Rattle.ame_protocol.specs.Event.Event.{Event}
 use Rattle.ame_protocol.specs.Event.After.{after}
 use Rattle.ame_engine.specs.AtWork.{IsOnSeat}
@@ -40,7 +40,7 @@ GoesLowBy (Event.Tall seat attempt steps place) parts = WorkGoesLow parts seat (
 GoesLowBy _ parts = ⊤
 
 -- so it is of each of these events
-abbrev pub GoLow : State → List Event → Type 0
+abbrev pub GoLow : EngineState → List Event → Type 0
 GoLow s [] = ⊤
 GoLow s (e ∷ es) = GoesLowBy e s.parts × GoLow (after e s) es
 

@@ -10,7 +10,7 @@ use Rattle.ame_protocol.specs.declared.types.Limits.{Limits}
 use Rattle.ame_protocol.specs.declared.stop.Stop.{Stop}
 use Rattle.ame_protocol.specs.Event.Event.{Event}
 use Rattle.ame_protocol.specs.Event.Runs.{Follows}
-use Rattle.ame_protocol.specs.Event.State.{State}
+use Rattle.ame_protocol.specs.Event.EngineState.{EngineState}
 use Rattle.ame_machine.specs.Meaning.{Meaning}
 use Rattle.ame_engine.specs.Core.{Core}
 use Rattle.ame_engine.specs.Ending.{End}
@@ -63,7 +63,7 @@ module _ {C V M : Type 0} (meaning : Meaning C V M) where
   -- Events led to an engine from a state from which a run may go on from the base, each when it may come. None of their steps was at
   -- a form that would become a value that is too high.
   pub record HasRun (opening : Opening C) (core : Core C V M) : Type 0 where
-    pub start : State
+    pub start : EngineState
     pub starts : IsStart (meaning.program opening.code) (meaning.signature opening.code) opening.limits opening.base start
     pub events : List Event
     pub follows : Follows start events (state_of meaning core)

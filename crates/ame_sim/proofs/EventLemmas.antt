@@ -11,7 +11,7 @@ use Rattle.ame_protocol.specs.Event.Causes.{HasCause, is_from_outside}
 use Rattle.ame_protocol.specs.Event.Event.{Event}
 use Rattle.ame_protocol.specs.Event.Runs.{Follows}
 use Rattle.ame_protocol.specs.Event.Sound.{Sound}
-use Rattle.ame_protocol.specs.Event.State.{State, started_state}
+use Rattle.ame_protocol.specs.Event.EngineState.{EngineState, started_state}
 use Rattle.ame_protocol.proofs.Event.BoundLemmas.{outside-leaves}
 use Rattle.ame_protocol.proofs.Event.CauseLemmas.{fault-cause}
 use Rattle.ame_protocol.proofs.Event.RunLemmas.{sound-along}
@@ -35,20 +35,20 @@ use Rattle.ame_sim.proofs.TurnLemmas.{stopped-met}
 
 -- Runs of events
 
-follows-then : (es rest : List Event) (s mid end : State) → Follows s es mid → Follows mid rest end → Follows s (es ++ rest) end
-follows-then [] rest s mid end run on = subst (λ (x : State). Follows x rest end) run on
+follows-then : (es rest : List Event) (s mid end : EngineState) → Follows s es mid → Follows mid rest end → Follows s (es ++ rest) end
+follows-then [] rest s mid end run on = subst (λ (x : EngineState). Follows x rest end) run on
 follows-then (e ∷ es) rest s mid end run on = (run.0, follows-then es rest (after e s) mid end run.1 on)
 
 -- if a run ends with a halt, its stop is kept
-halted-last : (es : List Event) (s end : State) (why : Stop) → Follows s (es ++ Event.Halt why ∷ []) end → end.stop ≡ Some why
-halted-last [] s end why run = ap (λ (x : State). x.stop) run.1
+halted-last : (es : List Event) (s end : EngineState) (why : Stop) → Follows s (es ++ Event.Halt why ∷ []) end → end.stop ≡ Some why
+halted-last [] s end why run = ap (λ (x : EngineState). x.stop) run.1
 halted-last (e ∷ es) s end why run = halted-last es (after e s) end why run.1
 
 some-none : (o : Option Stop) (why : Stop) → o ≡ Some why → o ≡ None → ⊥
 some-none o why is none = let clash : true ≡ false = sym (ap is_some is) ∙ ap is_some none in cc
 
 module _ {C V M : Type 0} (meaning : Meaning C V M) where
-  abbrev state : ShellView C V M → State
+  abbrev state : ShellView C V M → EngineState
   state shell = state_of meaning shell.core
 
   -- the engine stops for what comes from outside
@@ -161,11 +161,11 @@ module _ {C V M : Type 0} (meaning : Meaning C V M) where
   -- A run may be out of memory at the end.
   module _ (opening : Opening C) (mades : List Made) (first last now : ShellView C V M) (plays : Plays meaning mades first last)
       (fresh : state first ≡ started_state (meaning.program opening.code) (meaning.signature opening.code) opening.limits) (sound : Sound (state first)) where
-    abbrev begun : State
+    abbrev begun : EngineState
     begun = started_state (meaning.program opening.code) (meaning.signature opening.code) opening.limits
 
-    from-start : (es : List Event) (end : State) → Follows (state first) es end → Follows begun es end
-    from-start es end h = subst (λ (s : State). Follows s es end) fresh h
+    from-start : (es : List Event) (end : EngineState) → Follows (state first) es end → Follows begun es end
+    from-start es end h = subst (λ (s : EngineState). Follows s es end) fresh h
 
     -- if no stop is kept, there was no halt
     run-lacks : (run : HasRun mades first last plays) → last.core.stop ≡ None → now ≡ lacking last → run.halts ≡ []

@@ -5,7 +5,7 @@ use Rattle.ame_protocol.specs.declared.stop.Stop.{Stop}
 use Rattle.ame_protocol.specs.Event.Causes.{is_from_outside}
 use Rattle.ame_protocol.specs.Event.Event.{Event}
 use Rattle.ame_protocol.specs.Event.Runs.{Follows}
-use Rattle.ame_protocol.specs.Event.State.{started_state}
+use Rattle.ame_protocol.specs.Event.EngineState.{started_state}
 use Rattle.ame_engine.specs.Makes.{state_of}
 use Rattle.ame_shell.specs.Shell.{Opening, ShellView}
 use Rattle.ame_shell.specs.Outcomes.{IsOutcomeOf}

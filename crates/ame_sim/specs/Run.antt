@@ -2,7 +2,7 @@
 use Rattle.std.specs.Prelude.{◌≡◌, ℕ, ◌+◌, ◌*◌, ◌<◌, ◌≤◌, ◌⊎◌, false, List, [], ◌∷◌, length, map, replicate, All, None, IsSome}
 use Rattle.ame_sim.specs.Questions.{AreAnswers, idles_of, seats_of, turns_of}
 use Rattle.ame_journal.specs.declared.entry.Entry.{Entry}
-use Rattle.ame_protocol.specs.Event.State.{started_state}
+use Rattle.ame_protocol.specs.Event.EngineState.{started_state}
 use Rattle.ame_engine.specs.Ending.{End}
 use Rattle.ame_engine.specs.Makes.{state_of}
 use Rattle.ame_shell.specs.Shell.{Opening, ShellView, IsShell}

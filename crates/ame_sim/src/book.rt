@@ -7,14 +7,14 @@ ghost use Rattle.ame_sim.specs.Woven.{WaitsPlainly};
 
 use crate::made::Made;
 use crate::packed::{PackedMades, is_waited};
-use crate::waits::Waits;
+use crate::waits::WaitFlags;
 use ame_term::NoMemory;
 use std::alloc::Global;
 
 /// Records what each pick did, and which of the seats wait.
 #[derive(Drop)]
 pub struct Book {
-    pub waits: Waits,
+    pub waits: WaitFlags,
     pub mades: PackedMades,
 }
 
@@ -25,7 +25,7 @@ impl Book {
         ensures none { IfOk result (λ book. book.mades.items ≡ []) }
     {
         Ok(Book {
-            waits: Waits::new(alloc, seats)?,
+            waits: WaitFlags::new(alloc, seats)?,
             mades: PackedMades::new(alloc),
         })
     }

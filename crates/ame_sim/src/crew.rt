@@ -6,7 +6,7 @@ ghost use Rattle.ame_engine.specs.Ending.{end_of};
 ghost use Rattle.ame_engine.specs.Makes.{state_of};
 ghost use Rattle.ame_engine.specs.Whole.{AreLimits};
 ghost use Rattle.ame_protocol.specs.declared.types.Task.{Task};
-ghost use Rattle.ame_protocol.specs.Event.State.{started_state};
+ghost use Rattle.ame_protocol.specs.Event.EngineState.{started_state};
 ghost use Rattle.ame_protocol.specs.Engine.Parts.{task_at};
 ghost use Rattle.ame_shell.specs.Shell.{Opening, IsShell, IsOverFrom};
 ghost use Rattle.ame_sim.specs.Crew.{lacking, left_to_undo, IsUnwound, SomeSeatIsAtWork};

@@ -28,4 +28,4 @@ pub use run::{Played, run_by_chooser};
 pub use schedule::{
     ScheduleFault, Scheduled, read_schedule, schedule_line, schedule_text, sign_of,
 };
-pub use waits::Waits;
+pub use waits::WaitFlags;

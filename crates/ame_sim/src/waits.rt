@@ -8,12 +8,12 @@ use std::marker::Model;
 
 /// Keeps which of the seats wait. Contracts see a flag for each seat, which is true if it waits.
 #[derive(Drop)]
-pub struct Waits {
+pub struct WaitFlags {
     waits: Vec<bool>,
     may: Vec<u32>,
 }
 
-impl Model for Waits {
+impl Model for WaitFlags {
     ghost use Rattle.std.specs.Prelude.{Bool, List};
     ghost use Rattle.ame_sim.specs.Waits.{IsListOf};
 
@@ -24,15 +24,15 @@ impl Model for Waits {
     ghost invariant = { λ w. IsListOf w.waits w.may };
 }
 
-impl Waits {
+impl WaitFlags {
     /// Makes this number of seats. None of them waits.
-    pub fn new(alloc: Global, seats: u32) -> Result<Waits, NoMemory>
+    pub fn new(alloc: Global, seats: u32) -> Result<WaitFlags, NoMemory>
         ensures { IfOk result (λ waits. waits ≡ replicate seats false) }
     {
         let waits = vec![in alloc; false; seats as usize]?;
         let mut may = Vec::with_capacity(alloc, seats as usize)?;
         list_seats(&mut may, &waits);
-        Ok(Waits { waits, may })
+        Ok(WaitFlags { waits, may })
     }
 
     /// Returns the seats that don't wait, rising.

@@ -33,12 +33,12 @@ use Rattle.ame_engine.specs.contracts.engine.Engine.TheInside as EngineInside
 use Rattle.ame_rows.specs.contracts.row.Row as Row
 use Rattle.ame_worker.specs.contracts.shared.Opened as Opened
 use Rattle.ame_worker.specs.contracts.shared.SeatRow as SeatRow
-use Rattle.ame_worker.specs.contracts.shared.Place as Place
+use Rattle.ame_worker.specs.contracts.shared.SeatPlace as SeatPlace
 use Rattle.ame_worker.specs.contracts.shared.Shared as Shared
 use Rattle.ame_worker.specs.contracts.turns.TurnRecord as TurnRecord
 use Rattle.ame_worker.specs.contracts.worker.Worker as Worker
 
-pub place-send : (M : RattleType) → IsSend (Place.the_row M)
+pub place-send : (M : RattleType) → IsSend (SeatPlace.the_row M)
 place-send M = search (sendable, crosses) depth 20
 
 snapshot-send : (K : RattleType) → IsSend (Snapshot.the_field K).row
@@ -90,7 +90,7 @@ module _ (M K D C V : RattleType) (r : runner.Ghosts M.Denot C.Denot V.Denot) (m
       let T = Shared.the_type M K D C V r m v s d in
       let all : AllSend (fields T) = (
         Box-send (Shell.the_row M K D C V r m v s d) shell-send,
-        (Vec-send (Place.the_row M) (place-send M), (trace-send (TurnRecord.the_row M K D C V r m v s d), (snapshot-send (Shell.the_row M K D C V r m v s d), tt))),
+        (Vec-send (SeatPlace.the_row M) (place-send M), (trace-send (TurnRecord.the_row M K D C V r m v s d), (snapshot-send (Shell.the_row M K D C V r m v s d), tt))),
       ) in
       recorded_send (Struct (shape T)) T.D T.to T.to_one (struct_send (shape T) all)
 

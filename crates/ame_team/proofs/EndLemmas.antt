@@ -14,11 +14,11 @@ use Rattle.ame_shell.specs.Shell.{ShellView}
 use Rattle.ame_baton.specs.declared.seats.SeatAt.{SeatAt}
 use Rattle.ame_baton.specs.declared.view.LastSeen.{LastSeen}
 use Rattle.ame_baton.specs.Batons.{knows, left_by_each}
-use Rattle.ame_baton.specs.Seats.{entries_by, left_by, Stays, IsUntouched}
+use Rattle.ame_baton.specs.Seats.{entries_by, left_by, IsThereAsLeft, IsUntouched}
 use Rattle.ame_baton.proofs.Lookups.{get_there}
 use Rattle.ame_worker.specs.Rows.{Kept, SeatRow, empty_row, kept_at, row_of, rows_in}
 use Rattle.ame_worker.specs.Shared.{OpenedView, IsShared}
-use Rattle.ame_worker.specs.Turns.{TurnView, Turns, maker}
+use Rattle.ame_worker.specs.Turns.{TurnView, AreTurnsBetween, maker}
 use Rattle.ame_worker.specs.Workers.{IsThrough}
 use Rattle.ame_team.specs.Teams.{HasBeenLedBy}
 
@@ -48,7 +48,7 @@ by-seats {C} {V} {M} count (t ∷ ts) none =
     here (inr beyond) = absurd (kept-some (t.seat == t.seat) t (entries_by maker t.seat ts) (eq-eqb t.seat t.seat refl) (none t.seat beyond))
 
 module _ {S C V M : Type 0} (first : SeatAt S (OpenedView C V M) (SeatRow M) (TurnView C V M)) (rest : List (SeatAt S (OpenedView C V M) (SeatRow M) (TurnView C V M))) (rows : List (SeatRow M)) (entries : List (TurnView C V M))
-    (stays : (n : ℕ) (it : LastSeen (SeatRow M) (TurnView C V M)) → slice_get (left_by (knows first) ∷ left_by_each rest) n ≡ Some it → Stays maker n it rows entries)
+    (stays : (n : ℕ) (it : LastSeen (SeatRow M) (TurnView C V M)) → slice_get (left_by (knows first) ∷ left_by_each rest) n ≡ Some it → IsThereAsLeft maker n it rows entries)
     (first-through : IsThrough (knows first))
     (rest-through : (i : ℕ) (s : SeatAt S (OpenedView C V M) (SeatRow M) (TurnView C V M)) → slice_get rest i ≡ Some s → IsThrough (knows s)) where
   -- the row of a seat that is through
@@ -111,7 +111,7 @@ module _ {S C V M : Type 0} (first : SeatAt S (OpenedView C V M) (SeatRow M) (Tu
         record {
           last = shell;
           turns = entries;
-          follows = subst (λ (ts : List (TurnView C V M)). Turns meaning opened.first ts shell) shared.recorded shared.led;
+          follows = subst (λ (ts : List (TurnView C V M)). AreTurnsBetween meaning opened.first ts shell) shared.recorded shared.led;
           left = left_by (knows first) ∷ left_by_each rest;
           count = same;
           rows = rows;

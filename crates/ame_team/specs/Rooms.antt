@@ -1,10 +1,10 @@
 -- Room for a run by workers.
 use Rattle.std.specs.Prelude.{◌≡◌, ℕ, ◌≤◌, [], All, vec_len, vec_capacity}
 use Rattle.std.specs.Arc.{arc_value}
-use Rattle.ame_team.specs.declared.room.Room.{Room}
+use Rattle.ame_team.specs.declared.worker_room.WorkerRoom.{WorkerRoom}
 
 -- A share of this code for each of these seats, and room for their workers and for them.
-pub record IsRoomFor {M K D C V : Type 0} (code : C) (seats : ℕ) (room : Room M K D C V) : Type 0 where
+pub record IsRoomFor {M K D C V : Type 0} (code : C) (seats : ℕ) (room : WorkerRoom M K D C V) : Type 0 where
   pub codes : All (λ it. arc_value it ≡ code) room.codes.items
   pub count : vec_len room.codes ≡ seats
   pub no_workers : room.workers.items ≡ []

@@ -6,7 +6,7 @@ use Rattle.ame_protocol.specs.Engine.Parts.{task_at}
 use Rattle.ame_engine.specs.Ending.{End, end_of}
 use Rattle.ame_shell.specs.Shell.{ShellView}
 use Rattle.ame_baton.specs.declared.view.LastSeen.{LastSeen}
-use Rattle.ame_baton.specs.Seats.{Stays}
+use Rattle.ame_baton.specs.Seats.{IsThereAsLeft}
 use Rattle.ame_baton.specs.declared.seats.SeatAt.{SeatAt}
 use Rattle.ame_baton.specs.declared.turn.Baton.{Baton}
 use Rattle.ame_baton.specs.declared.view.Knows.{Knows}
@@ -18,7 +18,7 @@ use Rattle.ame_worker.specs.declared.worker.Worker.{Worker}
 use Rattle.ame_worker.specs.Workers.{IsReadyToTurn, IsThrough}
 use Rattle.ame_worker.specs.Rows.{SeatRow, empty_row}
 use Rattle.ame_worker.specs.Shared.{OpenedView}
-use Rattle.ame_worker.specs.Turns.{TurnView, Turns, maker}
+use Rattle.ame_worker.specs.Turns.{TurnView, AreTurnsBetween, maker}
 
 -- seat 0 as its baton was made, or as it made others
 pub record IsFirstSeat {C V M : Type 0} (made : ℕ) (k : Knows (OpenedView C V M) (SeatRow M) (TurnView C V M)) : Type 0 where
@@ -45,11 +45,11 @@ module _ {S C V M : Type 0} (baton : Baton S (OpenedView C V M) (SeatRow M) (Tur
 pub record HasBeenLedBy {C V M : Type 0} (meaning : Meaning C V M) (seats : ℕ) (first : ShellView C V M) (end : End V) : Type 0 where
   pub last : ShellView C V M
   pub turns : List (TurnView C V M)
-  pub follows : Turns meaning first turns last
+  pub follows : AreTurnsBetween meaning first turns last
   pub left : List (LastSeen (SeatRow M) (TurnView C V M))
   pub count : length left ≡ seats
   pub rows : List (SeatRow M)
-  pub stays : (n : ℕ) (it : LastSeen (SeatRow M) (TurnView C V M)) → slice_get left n ≡ Some it → Stays maker n it rows turns
+  pub stays : (n : ℕ) (it : LastSeen (SeatRow M) (TurnView C V M)) → slice_get left n ≡ Some it → IsThereAsLeft maker n it rows turns
   pub by_seats : All (λ t. t.seat < seats) turns
   pub idle : (seat : ℕ) → task_at last.core.tasks seat ≡ Task.Idle
   pub stopped : IsSome last.core.stop

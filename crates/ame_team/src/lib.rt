@@ -1,9 +1,9 @@
 //! A team of workers in threads, and a whole run of a program by a team.
 #![tactic(auto)]
 
-mod room;
 mod run;
 mod shared;
 mod team;
+mod worker_room;
 
 pub use run::{resume_by_workers, run_by_workers};

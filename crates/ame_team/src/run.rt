@@ -6,8 +6,8 @@ ghost use Rattle.ame_engine.specs.Resuming.{HasResumed};
 ghost use Rattle.ame_engine.specs.Whole.{AreLimits};
 ghost use Rattle.ame_shell.specs.Over.{IsOver, IsOverSince};
 
-use crate::room::Room;
 use crate::shared::run_shared;
+use crate::worker_room::WorkerRoom;
 use ame_device::Device;
 use ame_engine::Engine;
 use ame_io::Sink;
@@ -45,7 +45,7 @@ where
     let Ok(share) = Arc::try_clone(&code) else {
         return Err(io);
     };
-    let Ok(room) = Room::take(alloc, code, limits.seats) else {
+    let Ok(room) = WorkerRoom::take(alloc, code, limits.seats) else {
         return Err(io);
     };
     let shared = Shared::<M, K, D>::open(alloc, share, limits, io)?;
@@ -81,7 +81,7 @@ where
     ensures over { IfOk result (λ left. IsOverSince engine.base (M.meaning.program engine.code) (M.meaning.signature engine.code) engine.limits (M.meaning.value_of engine.code) io.ends left.ended left.io.ends) }
     ensures back { IfErr result (λ back. back ≡ io) }
 {
-    let Ok(room) = Room::take(alloc, code, engine.limits().seats) else {
+    let Ok(room) = WorkerRoom::take(alloc, code, engine.limits().seats) else {
         return Err(io);
     };
     let shared = Shared::resume(alloc, engine, io)?;

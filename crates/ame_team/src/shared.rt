@@ -8,8 +8,8 @@ ghost use Rattle.ame_worker.specs.Shared.{opening_from};
 ghost use Rattle.ame_team.specs.Rooms.{IsRoomFor};
 ghost use Rattle.ame_team.specs.Teams.{HasBeenLedBy};
 
-use crate::room::Room;
 use crate::team::{seats_of, team, work_all};
+use crate::worker_room::WorkerRoom;
 use ame_baton::Baton;
 use ame_device::Device;
 use ame_io::Sink;
@@ -24,7 +24,7 @@ use std::thread::Threads;
 /// was.
 pub(crate) fn run_shared<M, K, D, G, R>(
     rt: &R,
-    room: Room<M, K, D>,
+    room: WorkerRoom<M, K, D>,
     shared: Shared<M, K, D>,
     gate: &G,
     are_more: bool,

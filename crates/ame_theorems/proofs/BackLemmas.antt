@@ -17,7 +17,7 @@ use Rattle.ame_rows.specs.MemoryView.{row_at}
 use Rattle.ame_rows.specs.LettingGo.{undone_last}
 use Rattle.ame_protocol.specs.declared.types.Attempt.{Attempt}
 use Rattle.ame_protocol.specs.declared.types.Limits.{Limits}
-use Rattle.ame_protocol.specs.declared.types.Reason.{Reason}
+use Rattle.ame_protocol.specs.declared.types.UndoReason.{UndoReason}
 use Rattle.ame_protocol.specs.declared.types.Task.{Task}
 use Rattle.ame_protocol.specs.Bounds.Rollbacks.{rollbacks_at, MayTurnBack, HasReason}
 use Rattle.ame_protocol.specs.Bounds.Seats.{over_seats}
@@ -29,7 +29,7 @@ use Rattle.ame_protocol.specs.Event.Event.{Event}
 use Rattle.ame_protocol.specs.Event.May.{May}
 use Rattle.ame_protocol.specs.Event.Runs.{Follows, entries_told, entries_along}
 use Rattle.ame_protocol.specs.Event.Sound.{Sound}
-use Rattle.ame_protocol.specs.Event.State.{State}
+use Rattle.ame_protocol.specs.Event.EngineState.{EngineState}
 use Rattle.ame_protocol.specs.Event.Undoing.{reason_to_undo}
 use Rattle.ame_protocol.specs.Row.Waiting.{read_places}
 use Rattle.ame_protocol.specs.Visits.Stops.{told_task}
@@ -100,7 +100,7 @@ one-of (suc n) f few same = by (zero-or-one (f n) (few n)) (one-of n f few same)
 module _ (i : ℕ) where
   -- Returns one if a seat brings home the member that turned back.
   abbrev turning : Task → ℕ
-  turning (Task.Undoing attempt Reason.RolledBack) = cond (attempt.tried.number == i) 1 0
+  turning (Task.Undoing attempt UndoReason.RolledBack) = cond (attempt.tried.number == i) 1 0
   turning _ = 0
 
   -- how often the member turned back since its last entry
@@ -111,32 +111,32 @@ module _ (i : ℕ) where
   turning-few Task.Idle = omega arith
   turning-few (Task.Running attempt) = omega arith
   turning-few (Task.Free attempt) = omega arith
-  turning-few (Task.Undoing attempt Reason.RolledBack) = at-most attempt.tried.number i
-  turning-few (Task.Undoing attempt Reason.Noted) = omega arith
-  turning-few (Task.Undoing attempt Reason.Stopped) = omega arith
+  turning-few (Task.Undoing attempt UndoReason.RolledBack) = at-most attempt.tried.number i
+  turning-few (Task.Undoing attempt UndoReason.Noted) = omega arith
+  turning-few (Task.Undoing attempt UndoReason.Stopped) = omega arith
 
   turning-member : (t : Task) → turning t ≡ 1 → member_of t ≡ Some i
   turning-member Task.Idle one = absurd (omega arith)
   turning-member (Task.Running attempt) one = absurd (omega arith)
   turning-member (Task.Free attempt) one = absurd (omega arith)
-  turning-member (Task.Undoing attempt Reason.RolledBack) one = ap (λ (n : ℕ). Some n) (is-one attempt.tried.number i one)
-  turning-member (Task.Undoing attempt Reason.Noted) one = absurd (omega arith)
-  turning-member (Task.Undoing attempt Reason.Stopped) one = absurd (omega arith)
+  turning-member (Task.Undoing attempt UndoReason.RolledBack) one = ap (λ (n : ℕ). Some n) (is-one attempt.tried.number i one)
+  turning-member (Task.Undoing attempt UndoReason.Noted) one = absurd (omega arith)
+  turning-member (Task.Undoing attempt UndoReason.Stopped) one = absurd (omega arith)
 
   turning-may : (parts : Parts) (t : Task) → turning t ≡ 1 → HasReason parts t → MayTurnBack i parts.pool
   turning-may parts Task.Idle one why = absurd (omega arith)
   turning-may parts (Task.Running attempt) one why = absurd (omega arith)
   turning-may parts (Task.Free attempt) one why = absurd (omega arith)
-  turning-may parts (Task.Undoing attempt Reason.RolledBack) one why = subst (λ (n : ℕ). MayTurnBack n parts.pool) (is-one attempt.tried.number i one) why
-  turning-may parts (Task.Undoing attempt Reason.Noted) one why = absurd (omega arith)
-  turning-may parts (Task.Undoing attempt Reason.Stopped) one why = absurd (omega arith)
+  turning-may parts (Task.Undoing attempt UndoReason.RolledBack) one why = subst (λ (n : ℕ). MayTurnBack n parts.pool) (is-one attempt.tried.number i one) why
+  turning-may parts (Task.Undoing attempt UndoReason.Noted) one why = absurd (omega arith)
+  turning-may parts (Task.Undoing attempt UndoReason.Stopped) one why = absurd (omega arith)
 
   may-below : (o : Option (Member Tree)) → IsSomeAnd o (λ m. m.rollbacks < max_rollbacks) → told_of o < 8
   may-below None h = absurd h
   may-below (Some m) h = h
 
   -- it isn't often
-  backs-few : (s : State) → Sound s → backs s.parts ≤ 8
+  backs-few : (s : EngineState) → Sound s → backs s.parts ≤ 8
   backs-few s h = by (one-of s.parts.limits.seats (λ k. turning (task_at s.parts.tasks k)) (λ k. turning-few (task_at s.parts.tasks k)) same)
     where
       same : (k j : ℕ) → turning (task_at s.parts.tasks k) ≡ 1 → turning (task_at s.parts.tasks j) ≡ 1 → k ≡ j
@@ -191,9 +191,9 @@ module _ (i : ℕ) where
   undo-turning attempt Task.Idle its = refl
   undo-turning attempt (Task.Running a) its = refl
   undo-turning attempt (Task.Free a) its = refl
-  undo-turning attempt (Task.Undoing a Reason.RolledBack) its = ap (λ (x : Attempt). cond (x.tried.number == i) 1 0) (sym (some-is a attempt its))
-  undo-turning attempt (Task.Undoing a Reason.Noted) its = refl
-  undo-turning attempt (Task.Undoing a Reason.Stopped) its = refl
+  undo-turning attempt (Task.Undoing a UndoReason.RolledBack) its = ap (λ (x : Attempt). cond (x.tried.number == i) 1 0) (sym (some-is a attempt its))
+  undo-turning attempt (Task.Undoing a UndoReason.Noted) its = refl
+  undo-turning attempt (Task.Undoing a UndoReason.Stopped) its = refl
 
   rolled-at : (n : ℕ) (pool : Roster Tree) → MayTurnBack n pool → rollbacks_at i (home n true pool) ≡ rollbacks_at i pool + cond (n == i) 1 0
   rolled-at n pool may = by (which i n)
@@ -215,21 +215,21 @@ module _ (i : ℕ) where
       let same = (altered-unrolled attempt.tried.number (at_home false) (λ _. refl) parts.pool.members (λ _. refl)).all i in omega (arith, same)
   home-backs parts attempt (Task.Free a) its why =
       let same = (altered-unrolled attempt.tried.number (at_home false) (λ _. refl) parts.pool.members (λ _. refl)).all i in omega (arith, same)
-  home-backs parts attempt (Task.Undoing a Reason.RolledBack) its why =
+  home-backs parts attempt (Task.Undoing a UndoReason.RolledBack) its why =
       subst (λ (x : Attempt). rollbacks_at i (home x.tried.number true parts.pool) + 0 ≡ rollbacks_at i parts.pool + cond (a.tried.number == i) 1 0 + 0)
       (some-is a attempt its) (let more = rolled-at a.tried.number parts.pool why in omega (arith, more))
-  home-backs parts attempt (Task.Undoing a Reason.Noted) its why =
+  home-backs parts attempt (Task.Undoing a UndoReason.Noted) its why =
       let same = (altered-unrolled attempt.tried.number at_rest (λ _. refl) parts.pool.members (λ _. refl)).all i in omega (arith, same)
-  home-backs parts attempt (Task.Undoing a Reason.Stopped) its why =
+  home-backs parts attempt (Task.Undoing a UndoReason.Stopped) its why =
       let same = (altered-unrolled attempt.tried.number (at_home false) (λ _. refl) parts.pool.members (λ _. refl)).all i in omega (arith, same)
 
   told-turning : (t : Task) → turning (told_task t) ≡ turning t
   told-turning Task.Idle = refl
   told-turning (Task.Running attempt) = refl
   told-turning (Task.Free attempt) = refl
-  told-turning (Task.Undoing attempt Reason.RolledBack) = refl
-  told-turning (Task.Undoing attempt Reason.Noted) = refl
-  told-turning (Task.Undoing attempt Reason.Stopped) = refl
+  told-turning (Task.Undoing attempt UndoReason.RolledBack) = refl
+  told-turning (Task.Undoing attempt UndoReason.Noted) = refl
+  told-turning (Task.Undoing attempt UndoReason.Stopped) = refl
 
   works : (t : Task) (attempt : Attempt) → working t ≡ Some attempt → attempt_of t ≡ Some attempt
   works Task.Idle attempt e = cc
@@ -245,7 +245,7 @@ module _ (i : ℕ) where
   abbrev TellsNone : Event → Type 0
   TellsNone e = All (λ (entry : Entry). entry.number ≢ i) (entries_told e)
 
-  module _ (s : State) (h : Sound s) where
+  module _ (s : EngineState) (h : Sound s) where
     abbrev parts : Parts
     parts = s.parts
 
@@ -281,7 +281,7 @@ module _ (i : ℕ) where
         (Task.Running (checked_attempt steps attempt parts)) 0 refl refl (omega arith)
     step (Event.TurnBack seat attempt why) may none =
         seat-on parts h.stands seat attempt (Task.Running attempt) may.1 refl (after (Event.TurnBack seat attempt why) s).parts
-        (Task.Undoing attempt Reason.RolledBack) (cond (attempt.tried.number == i) 1 0) refl refl (omega arith)
+        (Task.Undoing attempt UndoReason.RolledBack) (cond (attempt.tried.number == i) 1 0) refl refl (omega arith)
     step (Event.End seat attempt steps place woken) may none =
         let n = attempt.tried.number in
         let mid = with_newcomers parts.next place.spawns (woken_for woken parts.pool) in
@@ -302,7 +302,7 @@ module _ (i : ℕ) where
         let locs = read_places (row_at parts.memory.rows seat).reads in
         let same = (altered-rolls attempt.tried.number (noted_on locs) (λ _. refl) parts.pool.members).others i (other (stuck_entry seat attempt.tried.number steps place) none) in
         seat-on parts h.stands seat attempt (Task.Running attempt) may.1.task refl (after (Event.Note seat attempt steps place) s).parts
-        (Task.Undoing (record attempt { logged = true }) Reason.Noted) 0 refl refl (omega (arith, same))
+        (Task.Undoing (record attempt { logged = true }) UndoReason.Noted) 0 refl refl (omega (arith, same))
     step (Event.Visit seat attempt steps place inside memory) may none =
         let n = attempt.tried.number in
         let mid = with_newcomers parts.next place.spawns parts.pool in
@@ -343,8 +343,8 @@ module _ (i : ℕ) where
     step (Event.Halt why) may none = omega arith
 
   -- along a run with no entry of the member
-  along : (es : List Event) (s end : State) → Follows s es end → Sound s → HasNoEntryOf i es → backs end.parts ≡ backs s.parts + count_by (turns_back i) es
-  along [] s end run h none = let same = ap (λ (x : State). backs x.parts) run in omega (arith, same)
+  along : (es : List Event) (s end : EngineState) → Follows s es end → Sound s → HasNoEntryOf i es → backs end.parts ≡ backs s.parts + count_by (turns_back i) es
+  along [] s end run h none = let same = ap (λ (x : EngineState). backs x.parts) run in omega (arith, same)
   along (e ∷ es) s end run h none =
       let P : Entry → Type 0 = λ entry. entry.number ≢ i in
       let first = step s h e run.0 (all-left P (entries_told e) (entries_along es) none) in
@@ -353,11 +353,11 @@ module _ (i : ℕ) where
       omega (arith, first, rest, more)
 
 -- a run of two parts comes to a state between
-parted : (xs ys : List Event) (s end : State) → Follows s (xs ++ ys) end → (mid : State) × Follows s xs mid × Follows mid ys end
+parted : (xs ys : List Event) (s end : EngineState) → Follows s (xs ++ ys) end → (mid : EngineState) × Follows s xs mid × Follows mid ys end
 parted [] ys s end run = (s, refl, run)
 parted (x ∷ xs) ys s end run = let rest = parted xs ys (after x s) end run.1 in (rest.0, (run.0, rest.1), rest.2)
 
-pub backs-seldom : (es : List Event) (s end : State) → Follows s es end → Sound s → TurnsBackSeldom es
+pub backs-seldom : (es : List Event) (s end : EngineState) → Follows s es end → Sound s → TurnsBackSeldom es
 backs-seldom es s end run h i before between behind is none =
     let first = parted before (between ++ behind) s end (subst (λ (l : List Event). Follows s l end) is run) in
     let second = parted between behind first.0 end first.2 in

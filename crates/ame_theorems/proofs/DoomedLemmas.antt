@@ -16,7 +16,7 @@ use Rattle.ame_protocol.specs.Row.SeatRun.{AreValid}
 use Rattle.ame_protocol.specs.Engine.Events.{brought_home, one_turn, undo_turn, with_memory, with_task, with_try}
 use Rattle.ame_protocol.specs.Engine.Parts.{Parts, whole_journal, heap_in, task_at}
 use Rattle.ame_protocol.specs.Engine.StandsFor.{StandsFor}
-use Rattle.ame_protocol.specs.Event.State.{State as Runtime}
+use Rattle.ame_protocol.specs.Event.EngineState.{EngineState as Runtime}
 use Rattle.ame_protocol.specs.Event.Event.{Event}
 use Rattle.ame_protocol.specs.Event.After.{after}
 use Rattle.ame_protocol.specs.Event.May.{May, MayNote, ReadsAreValid}

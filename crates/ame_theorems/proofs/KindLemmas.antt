@@ -9,7 +9,7 @@ use Rattle.ame_protocol.specs.Event.After.{after, counted_by}
 use Rattle.ame_protocol.specs.Event.Counting.{one_undone, nothing_counted}
 use Rattle.ame_protocol.specs.Event.Event.{Event, Find, Reverse}
 use Rattle.ame_protocol.specs.Event.Runs.{Follows, entries_along, entries_told}
-use Rattle.ame_protocol.specs.Event.State.{State}
+use Rattle.ame_protocol.specs.Event.EngineState.{EngineState}
 use Rattle.ame_theorems.proofs.StoppedLemmas.{faults-kept}
 use Rattle.ame_theorems.specs.Kinds.{is_ran, is_free, is_stuck, is_tall, entries_of, is_fault, is_alloc, is_at_commit, is_at_block, is_at_tall, is_refused, CountsByKind}
 
@@ -34,10 +34,10 @@ undone-allocs true c = omega arith
 undone-allocs false c = omega arith
 
 -- an event counts one for each of its entries of a kind, and one if this is so of it
-abbrev CountsOne : (EntryKind → Bool) → (Event → Bool) → (Counters → ℕ) → Event → State → Type 0
+abbrev CountsOne : (EntryKind → Bool) → (Event → Bool) → (Counters → ℕ) → Event → EngineState → Type 0
 CountsOne told also of e s = of (counted_by e s) ≡ of s.counters + (entries_of told (entries_told e) + cond (also e) 1 0)
 
-one-freed : (e : Event) (s : State) → CountsOne is_free is_fault (λ c. c.frees) e s
+one-freed : (e : Event) (s : EngineState) → CountsOne is_free is_fault (λ c. c.frees) e s
 one-freed (Event.Begin seat number) s = omega arith
 one-freed (Event.Read seat l) s = omega arith
 one-freed (Event.Write seat l v) s = omega arith
@@ -59,7 +59,7 @@ one-freed (Event.Cut seat attempt steps place) s = omega arith
 one-freed (Event.Tall seat attempt steps place) s = omega arith
 one-freed (Event.Halt why) s = omega arith
 
-one-committed : (e : Event) (s : State) → CountsOne is_ran (is_refused is_at_commit) (λ c. c.commits) e s
+one-committed : (e : Event) (s : EngineState) → CountsOne is_ran (is_refused is_at_commit) (λ c. c.commits) e s
 one-committed (Event.Begin seat number) s = omega arith
 one-committed (Event.Read seat l) s = omega arith
 one-committed (Event.Write seat l v) s = omega arith
@@ -81,7 +81,7 @@ one-committed (Event.Cut seat attempt steps place) s = omega arith
 one-committed (Event.Tall seat attempt steps place) s = omega arith
 one-committed (Event.Halt why) s = omega arith
 
-one-blocked : (e : Event) (s : State) → CountsOne is_stuck (is_refused is_at_block) (λ c. c.blocks) e s
+one-blocked : (e : Event) (s : EngineState) → CountsOne is_stuck (is_refused is_at_block) (λ c. c.blocks) e s
 one-blocked (Event.Begin seat number) s = omega arith
 one-blocked (Event.Read seat l) s = omega arith
 one-blocked (Event.Write seat l v) s = omega arith
@@ -103,7 +103,7 @@ one-blocked (Event.Cut seat attempt steps place) s = omega arith
 one-blocked (Event.Tall seat attempt steps place) s = omega arith
 one-blocked (Event.Halt why) s = omega arith
 
-one-tall : (e : Event) (s : State) → CountsOne is_tall (is_refused is_at_tall) (λ c. c.talls) e s
+one-tall : (e : Event) (s : EngineState) → CountsOne is_tall (is_refused is_at_tall) (λ c. c.talls) e s
 one-tall (Event.Begin seat number) s = omega arith
 one-tall (Event.Read seat l) s = omega arith
 one-tall (Event.Write seat l v) s = omega arith
@@ -125,7 +125,7 @@ one-tall (Event.Cut seat attempt steps place) s = omega arith
 one-tall (Event.Tall seat attempt steps place) s = omega arith
 one-tall (Event.Halt why) s = omega arith
 
-one-alloc : (e : Event) (s : State) → (counted_by e s).allocs ≡ s.counters.allocs + cond (is_alloc e) 1 0
+one-alloc : (e : Event) (s : EngineState) → (counted_by e s).allocs ≡ s.counters.allocs + cond (is_alloc e) 1 0
 one-alloc (Event.Begin seat number) s = omega arith
 one-alloc (Event.Read seat l) s = omega arith
 one-alloc (Event.Write seat l v) s = omega arith
@@ -147,10 +147,10 @@ one-alloc (Event.Cut seat attempt steps place) s = omega arith
 one-alloc (Event.Tall seat attempt steps place) s = omega arith
 one-alloc (Event.Halt why) s = omega arith
 
-module _ (told : EntryKind → Bool) (also : Event → Bool) (of : Counters → ℕ) (one : (e : Event) (s : State) → CountsOne told also of e s) where
+module _ (told : EntryKind → Bool) (also : Event → Bool) (of : Counters → ℕ) (one : (e : Event) (s : EngineState) → CountsOne told also of e s) where
   -- so along a run
-  counts-along : (es : List Event) (s end : State) → Follows s es end → of end.counters ≡ of s.counters + (entries_of told (entries_along es) + count_by also es)
-  counts-along [] s end run = let same = ap (λ (x : State). of x.counters) run in omega (arith, same)
+  counts-along : (es : List Event) (s end : EngineState) → Follows s es end → of end.counters ≡ of s.counters + (entries_of told (entries_along es) + count_by also es)
+  counts-along [] s end run = let same = ap (λ (x : EngineState). of x.counters) run in omega (arith, same)
   counts-along (e ∷ es) s end run =
       let rest = counts-along es (after e s) end run.1 in
       let first = one e s in
@@ -159,8 +159,8 @@ module _ (told : EntryKind → Bool) (also : Event → Bool) (of : Counters → 
       sum_by-append (λ (entry : Entry). cond (told entry.kind) 1 0) (entries_told e) (entries_along es) in
       omega (arith, rest, first, more, both)
 
-allocs-along : (es : List Event) (s end : State) → Follows s es end → end.counters.allocs ≡ s.counters.allocs + count_by is_alloc es
-allocs-along [] s end run = let same = ap (λ (x : State). x.counters.allocs) run in omega (arith, same)
+allocs-along : (es : List Event) (s end : EngineState) → Follows s es end → end.counters.allocs ≡ s.counters.allocs + count_by is_alloc es
+allocs-along [] s end run = let same = ap (λ (x : EngineState). x.counters.allocs) run in omega (arith, same)
 allocs-along (e ∷ es) s end run =
     let rest = allocs-along es (after e s) end run.1 in
     let first = one-alloc e s in
@@ -168,7 +168,7 @@ allocs-along (e ∷ es) s end run =
     omega (arith, rest, first, more)
 
 -- from where nothing is counted
-pub kinds-counted : (es : List Event) (s end : State) → Follows s es end → s.counters ≡ nothing_counted → s.stop ≡ None
+pub kinds-counted : (es : List Event) (s end : EngineState) → Follows s es end → s.counters ≡ nothing_counted → s.stop ≡ None
     → CountsByKind es (entries_along es) end.counters end.stop
 kinds-counted es s end run none going = record {
   frees =

@@ -10,7 +10,7 @@ use Rattle.ame_protocol.specs.declared.stop.Stop.{Stop}
 use Rattle.ame_protocol.specs.declared.types.Limits.{Limits}
 use Rattle.ame_protocol.specs.Event.Counting.{nothing_counted}
 use Rattle.ame_protocol.specs.Event.Sound.{Sound}
-use Rattle.ame_protocol.specs.Event.State.{State}
+use Rattle.ame_protocol.specs.Event.EngineState.{EngineState}
 use Rattle.ame_protocol.proofs.Event.OpenedLemmas.{sound-opened}
 use Rattle.ame_protocol.proofs.Event.SoundLemmas.{sound-start}
 use Rattle.ame_engine.specs.Ending.{End}
@@ -24,12 +24,12 @@ use Rattle.ame_theorems.proofs.StoppedLemmas.{stopped-by}
 
 module _ (program : Tree) (signature : Signature) (limits : Limits) (base : List Entry) where
   -- at a start nothing is counted, and no stop is kept
-  fresh : (s : State) → IsStart program signature limits base s → (s.counters ≡ nothing_counted) × (s.stop ≡ None)
-  fresh s (inl starts) = (ap (λ (x : State). x.counters) starts.1, ap (λ (x : State). x.stop) starts.1)
-  fresh s (inr goes) = (ap (λ (x : State). x.counters) goes.state, ap (λ (x : State). x.stop) goes.state)
+  fresh : (s : EngineState) → IsStart program signature limits base s → (s.counters ≡ nothing_counted) × (s.stop ≡ None)
+  fresh s (inl starts) = (ap (λ (x : EngineState). x.counters) starts.1, ap (λ (x : EngineState). x.stop) starts.1)
+  fresh s (inr goes) = (ap (λ (x : EngineState). x.counters) goes.state, ap (λ (x : EngineState). x.stop) goes.state)
 
   -- It is sound if the types accept the program and the base has no notes.
-  start-sound : (s : State) → IsAccepted signature program → 1 ≤ limits.slice → All (λ (e : Entry). is_note e.kind ≡ false) base
+  start-sound : (s : EngineState) → IsAccepted signature program → 1 ≤ limits.slice → All (λ (e : Entry). is_note e.kind ≡ false) base
       → IsStart program signature limits base s → Sound s
   start-sound s accepted slice plain (inl starts) = subst Sound (sym starts.1) (sound-start program signature limits accepted slice)
   start-sound s accepted slice plain (inr goes) =

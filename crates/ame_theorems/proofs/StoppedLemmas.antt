@@ -9,12 +9,12 @@ use Rattle.ame_protocol.specs.Event.Causes.{only_seats_keep}
 use Rattle.ame_protocol.specs.Event.Event.{Event}
 use Rattle.ame_protocol.specs.Event.May.{May}
 use Rattle.ame_protocol.specs.Event.Runs.{Follows}
-use Rattle.ame_protocol.specs.Event.State.{State}
+use Rattle.ame_protocol.specs.Event.EngineState.{EngineState}
 use Rattle.ame_theorems.specs.Kinds.{is_fault, faults_at}
 use Rattle.ame_theorems.specs.Stopped.{is_undo, IsStoppedBy}
 
 -- Only undos happen once a stop is kept.
-goes : (e : Event) (s : State) → May e s → (is_undo e ≡ true) ⊎ (s.stop ≡ None)
+goes : (e : Event) (s : EngineState) → May e s → (is_undo e ≡ true) ⊎ (s.stop ≡ None)
 goes (Event.Begin seat number) s may = inr may.0.going
 goes (Event.Read seat l) s may = inr may.0.going
 goes (Event.Write seat l v) s may = inr may.0.going
@@ -42,8 +42,8 @@ apart : {A : Type 0} (o : Option A) (x : A) → o ≡ None → o ≡ Some x → 
 apart {A} o x none some = let clash : ◌≡◌ {A = Option A} None (Some x) = sym none ∙ some in cc
 
 -- Once a stop is kept, only undos follow, and the stop stays.
-behind : (es : List Event) (s end : State) (why : Stop) → Follows s es end → s.stop ≡ Some why → All (λ e. is_undo e ≡ true) es × (end.stop ≡ Some why)
-behind [] s end why run stop = (All-nil (λ (e : Event). is_undo e ≡ true), ap (λ (x : State). x.stop) run ∙ stop)
+behind : (es : List Event) (s end : EngineState) (why : Stop) → Follows s es end → s.stop ≡ Some why → All (λ e. is_undo e ≡ true) es × (end.stop ≡ Some why)
+behind [] s end why run stop = (All-nil (λ (e : Event). is_undo e ≡ true), ap (λ (x : EngineState). x.stop) run ∙ stop)
 behind (e ∷ es) s end why run stop = by (goes e s run.0) (λ kept. behind es (after e s) end why run.1 kept)
   where
     by : (is_undo e ≡ true) ⊎ (s.stop ≡ None) → ((after e s).stop ≡ Some why → All (λ x. is_undo x ≡ true) es × (end.stop ≡ Some why))
@@ -53,8 +53,8 @@ behind (e ∷ es) s end why run stop = by (goes e s run.0) (λ kept. behind es (
         (All-cons (λ (x : Event). is_undo x ≡ true) e es undoes rest.0, rest.1)
     by (inr none) further = absurd (apart s.stop why none stop)
 
-pub stopped-by : (es : List Event) (s end : State) (why : Stop) → Follows s es end → s.stop ≡ None → end.stop ≡ Some why → IsStoppedBy why es
-stopped-by [] s end why run none stop = absurd (apart end.stop why (ap (λ (x : State). x.stop) run ∙ none) stop)
+pub stopped-by : (es : List Event) (s end : EngineState) (why : Stop) → Follows s es end → s.stop ≡ None → end.stop ≡ Some why → IsStoppedBy why es
+stopped-by [] s end why run none stop = absurd (apart end.stop why (ap (λ (x : EngineState). x.stop) run ∙ none) stop)
 stopped-by (e ∷ es) s end why run none stop = by (stop_after e None) refl (λ going. stopped-by es (after e s) end why run.1 going stop)
   where
     here : (after e s).stop ≡ stop_after e None
@@ -116,7 +116,7 @@ halt-fails (Stop.DeviceFault device) e = absurd (let clash : true ≡ false = e 
 halt-fails _ e = refl
 
 -- An event that keeps a stop is a device's fault if the stop is one.
-kept-fails : (e : Event) (s : State) (why : Stop) → May e s → stop_after e None ≡ Some why → one (is_fault e) ≡ faults_at (Some why)
+kept-fails : (e : Event) (s : EngineState) (why : Stop) → May e s → stop_after e None ≡ Some why → one (is_fault e) ≡ faults_at (Some why)
 kept-fails (Event.Refuse seat attempt device) s why may is = ap faults_at is
 kept-fails (Event.Cut seat attempt steps place) s why may is = ap faults_at is
 kept-fails (Event.Tall seat attempt steps place) s why may is = ap faults_at is
@@ -124,8 +124,8 @@ kept-fails (Event.Halt reason) s why may is = halt-fails reason may.apart ∙ ap
 kept-fails _ s why may is = absurd (let clash : ◌≡◌ {A = Option Stop} None (Some why) = is in cc)
 
 -- A device fails at most once in a run, and then this is the stop.
-pub faults-kept : (es : List Event) (s end : State) → Follows s es end → s.stop ≡ None → count_by is_fault es ≡ faults_at end.stop
-faults-kept [] s end run none = sym (ap faults_at (ap (λ (x : State). x.stop) run ∙ none))
+pub faults-kept : (es : List Event) (s end : EngineState) → Follows s es end → s.stop ≡ None → count_by is_fault es ≡ faults_at end.stop
+faults-kept [] s end run none = sym (ap faults_at (ap (λ (x : EngineState). x.stop) run ∙ none))
 faults-kept (e ∷ es) s end run none = by (stop_after e None) refl (λ going. faults-kept es (after e s) end run.1 going)
   where
     here : (after e s).stop ≡ stop_after e None

@@ -3,7 +3,7 @@ use Rattle.std.specs.Prelude.{◌≡◌, ℕ, Option, Some, None}
 use Rattle.ame_protocol.specs.declared.types.Attempt.{Attempt}
 use Rattle.ame_protocol.specs.declared.types.Task.{Task}
 use Rattle.ame_protocol.specs.Engine.Parts.{task_at}
-use Rattle.ame_protocol.specs.Event.State.{State}
+use Rattle.ame_protocol.specs.Event.EngineState.{EngineState}
 use Rattle.ame_protocol.specs.Event.Event.{Event}
 use Rattle.ame_protocol.specs.Event.May.{ReadsAreValid}
 
@@ -27,7 +27,7 @@ seat_of (Event.Tall seat attempt steps place) = Some seat
 seat_of (Event.Halt why) = None
 
 -- The attempt of a seat is doomed: the seat runs protected code, and one of its reads isn't valid any more.
-pub record IsDoomed (s : State) (seat : ℕ) : Type 0 where
+pub record IsDoomed (s : EngineState) (seat : ℕ) : Type 0 where
   pub attempt : Attempt
   pub runs : task_at s.parts.tasks seat ≡ Task.Running attempt
   pub stale : ReadsAreValid s seat → ⊥

@@ -13,7 +13,7 @@ ghost use Rattle.ame_protocol.specs.declared.types.Attempt.{Attempt};
 ghost use Rattle.ame_protocol.specs.declared.types.Task.{Task};
 ghost use Rattle.ame_protocol.specs.Row.SeatRun.{HasUsed};
 ghost use Rattle.ame_protocol.specs.Engine.Parts.{whole_journal, task_at, run_in};
-ghost use Rattle.ame_protocol.specs.Event.State.{State as Runtime};
+ghost use Rattle.ame_protocol.specs.Event.EngineState.{EngineState as Runtime};
 ghost use Rattle.ame_protocol.specs.Event.Event.{Event};
 ghost use Rattle.ame_protocol.specs.Event.After.{after};
 ghost use Rattle.ame_protocol.specs.Event.May.{May, ReadsAreValid};

@@ -8,18 +8,18 @@ use Rattle.std.proofs.lemmas.Option.{slice_get_within, get_or_from_slice_get}
 use Rattle.ame_term.specs.Typing.{same_sort, same_effect, same_type}
 use Rattle.ame_term.specs.declared.types.Sort.{Sort}
 use Rattle.ame_term.specs.declared.types.Effect.{Effect}
-use Rattle.ame_types.specs.declared.scope.Scope as chain
-use Rattle.ame_types.specs.declared.shared.Shared as shared
-use Rattle.ame_types.specs.declared.shared.Key.{Key}
-use Rattle.ame_types.specs.declared.shared.Key.TheVariants as key
-use Rattle.ame_types.specs.declared.shared.Mark.{Mark}
-use Rattle.ame_types.specs.declared.shared.Mark.TheVariants as mark
-use Rattle.ame_types.specs.declared.shared.Zone.{Zone}
+use Rattle.ame_types.specs.declared.type_scope.TypeScope as chain
+use Rattle.ame_types.specs.declared.shared_type.SharedType as shared
+use Rattle.ame_types.specs.declared.shared_type.Key.{Key}
+use Rattle.ame_types.specs.declared.shared_type.Key.TheVariants as key
+use Rattle.ame_types.specs.declared.shared_type.Mark.{Mark}
+use Rattle.ame_types.specs.declared.shared_type.Mark.TheVariants as mark
+use Rattle.ame_types.specs.declared.shared_type.Zone.{Zone}
 use Rattle.ame_types.specs.Shared.{shared_type, mark_of, sort_zone, effect_zone, ref_key, fun_key, pair_key, IsListed, Lengthens}
-use Rattle.ame_types.specs.contracts.shared.MarkPartialEq.TheImpl as mark_test
-use Rattle.ame_types.specs.contracts.shared.ZonePartialEq.TheImpl as zone_test
-use Rattle.ame_types.specs.contracts.shared.KeyPartialEq.TheImpl as key_test
-use Rattle.ame_types.specs.contracts.shared.KeyEq.TheImpl.Laws.{laws-law as key_laws}
+use Rattle.ame_types.specs.contracts.shared_type.MarkPartialEq.TheImpl as mark_test
+use Rattle.ame_types.specs.contracts.shared_type.ZonePartialEq.TheImpl as zone_test
+use Rattle.ame_types.specs.contracts.shared_type.KeyPartialEq.TheImpl as key_test
+use Rattle.ame_types.specs.contracts.shared_type.KeyEq.TheImpl.Laws.{laws-law as key_laws}
 use Rattle.ame_types.specs.Scope.{AreListed}
 
 appended : {X : Type 0} (xs ys : List X) (n : ℕ) (x : X) → slice_get xs n ≡ Some x → slice_get (xs ++ ys) n ≡ Some x
@@ -42,7 +42,7 @@ pub longer : {old mid new : List Key} → Lengthens old mid → Lengthens mid ne
 longer g h = record { stays = λ n key i. h.stays n key (g.stays n key i) }
 
 -- what a table lists stays listed
-pub listed : {old new : List Key} → Lengthens old new → (t : shared.Shared) → IsListed old t → IsListed new t
+pub listed : {old new : List Key} → Lengthens old new → (t : shared.SharedType) → IsListed old t → IsListed new t
 listed g shared.Unit h = tt
 listed g shared.Bool h = tt
 listed g shared.Int h = tt
@@ -50,7 +50,7 @@ listed g (shared.Ref' n sort _ content) h = (g.stays n _ h.0, listed g content h
 listed g (shared.Fun' n effect _ param _ result) h = (g.stays n _ h.0, listed g param h.1, listed g result h.2)
 listed g (shared.Pair' n _ first _ second) h = (g.stays n _ h.0, listed g first h.1, listed g second h.2)
 
-pub all_listed : {old new : List Key} → Lengthens old new → (scope : chain.Scope) → AreListed old scope → AreListed new scope
+pub all_listed : {old new : List Key} → Lengthens old new → (scope : chain.TypeScope) → AreListed old scope → AreListed new scope
 all_listed g chain.Empty h = tt
 all_listed g (chain.Bound' _ outer x ty) h = (all_listed g outer h.0, listed g ty h.1)
 all_listed g (chain.Beside' _ outer ty) h = (all_listed g outer h.0, listed g ty h.1)
@@ -161,7 +161,7 @@ module _ (keys : List Key) (distinct : IsDistinct key_eq keys) where
   numbers = numbers_by key_laws keys distinct
 
   -- two types of a table are the same exactly where their marks are
-  pub same : (a b : shared.Shared) → IsListed keys a → IsListed keys b → mark_eq (mark_of a) (mark_of b) ≡ same_type (shared_type a) (shared_type b)
+  pub same : (a b : shared.SharedType) → IsListed keys a → IsListed keys b → mark_eq (mark_of a) (mark_of b) ≡ same_type (shared_type a) (shared_type b)
   unfolding same_type
   same shared.Unit shared.Unit h k = refl
   same shared.Unit shared.Bool h k = refl

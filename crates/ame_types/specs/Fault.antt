@@ -4,7 +4,7 @@ use Rattle.ame_term.specs.Tree.{Typ}
 use Rattle.ame_term.specs.View.{typ_of}
 use Rattle.ame_term.specs.Shown.{Shown, TypeFault, TypeOutcome}
 use Rattle.ame_term.specs.Typing.{breaks}
-use Rattle.ame_types.specs.declared.shared.Shared.{Shared as SharedType}
+use Rattle.ame_types.specs.declared.shared_type.SharedType.{SharedType}
 use Rattle.ame_types.specs.Shared.{shared_type}
 use Rattle.ame_types.specs.declared.fault.Shown.{Shown as Showing}
 use Rattle.ame_types.specs.declared.fault.Shown.TheVariants as shown
@@ -57,16 +57,16 @@ abbrev pub mismatch : ℕ → ℕ → Typ → Typ → TypeOutcome
 mismatch rule place found wanted = breaks rule place (Shown.Ty found) (Shown.Ty wanted)
 
 -- the fault is the outcome, unless memory ran out
-abbrev pub StopsAt : TypeOutcome → CheckFail → Type 0
-StopsAt outcome (check_fail.Fault fault) = outcome ≡ Err (shared_fault fault.value)
-StopsAt outcome check_fail.NoMemory = Unit {0}
+abbrev pub IsFaultOf : TypeOutcome → CheckFail → Type 0
+IsFaultOf outcome (check_fail.Fault fault) = outcome ≡ Err (shared_fault fault.value)
+IsFaultOf outcome check_fail.NoMemory = Unit {0}
 
 -- the answer is the outcome, unless memory ran out
 abbrev pub AnswersType : TypeOutcome → Result SharedType CheckFail → Type 0
 AnswersType outcome (Ok ty) = outcome ≡ Ok (shared_type ty)
-AnswersType outcome (Err e) = StopsAt outcome e
+AnswersType outcome (Err e) = IsFaultOf outcome e
 
 -- the test holds, or it doesn't and the answer is the fault, unless memory ran out
 abbrev pub PassesTest : Bool → TypeOutcome → Result ⊤ CheckFail → Type 0
 PassesTest test fault (Ok _) = test ≡ true
-PassesTest test fault (Err e) = (test ≡ false) × StopsAt fault e
+PassesTest test fault (Err e) = (test ≡ false) × IsFaultOf fault e

@@ -3,15 +3,15 @@ use Rattle.std.specs.Prelude.{◌≡◌, ℕ, List, Some, slice_get}
 use Rattle.ame_term.specs.Tree.{Typ}
 use Rattle.ame_term.specs.declared.types.Sort.{Sort}
 use Rattle.ame_term.specs.declared.types.Effect.{Effect}
-use Rattle.ame_types.specs.declared.shared.Shared as shared
-use Rattle.ame_types.specs.declared.shared.Mark.{Mark}
-use Rattle.ame_types.specs.declared.shared.Mark.TheVariants as mark
-use Rattle.ame_types.specs.declared.shared.Zone.{Zone}
-use Rattle.ame_types.specs.declared.shared.Key.{Key}
-use Rattle.ame_types.specs.declared.shared.Key.TheVariants as key
+use Rattle.ame_types.specs.declared.shared_type.SharedType as shared
+use Rattle.ame_types.specs.declared.shared_type.Mark.{Mark}
+use Rattle.ame_types.specs.declared.shared_type.Mark.TheVariants as mark
+use Rattle.ame_types.specs.declared.shared_type.Zone.{Zone}
+use Rattle.ame_types.specs.declared.shared_type.Key.{Key}
+use Rattle.ame_types.specs.declared.shared_type.Key.TheVariants as key
 
 -- the type
-abbrev pub shared_type : shared.Shared → Typ
+abbrev pub shared_type : shared.SharedType → Typ
 shared_type shared.Unit = Typ.Unit
 shared_type shared.Bool = Typ.Bool
 shared_type shared.Int = Typ.Int
@@ -20,7 +20,7 @@ shared_type (shared.Fun' n effect _ param _ result) = Typ.Fun effect (shared_typ
 shared_type (shared.Pair' n _ first _ second) = Typ.Pair (shared_type first) (shared_type second)
 
 -- the mark that sets it apart
-abbrev pub mark_of : shared.Shared → Mark
+abbrev pub mark_of : shared.SharedType → Mark
 mark_of shared.Unit = mark.Unit
 mark_of shared.Bool = mark.Bool
 mark_of shared.Int = mark.Int
@@ -39,17 +39,17 @@ effect_zone Effect.Unprotected = Zone.Unprotected
 effect_zone Effect.Either = Zone.Either
 
 -- the key of a type with parts
-abbrev pub ref_key : Sort → shared.Shared → Key
+abbrev pub ref_key : Sort → shared.SharedType → Key
 ref_key sort content = key.Ref (sort_zone sort) (mark_of content)
 
-abbrev pub fun_key : Effect → shared.Shared → shared.Shared → Key
+abbrev pub fun_key : Effect → shared.SharedType → shared.SharedType → Key
 fun_key effect param result = key.Fun (effect_zone effect) (mark_of param) (mark_of result)
 
-abbrev pub pair_key : shared.Shared → shared.Shared → Key
+abbrev pub pair_key : shared.SharedType → shared.SharedType → Key
 pair_key first second = key.Pair (mark_of first) (mark_of second)
 
 -- a table has the keys of a type and of its parts at their numbers
-abbrev pub IsListed : List Key → shared.Shared → Type 0
+abbrev pub IsListed : List Key → shared.SharedType → Type 0
 IsListed keys shared.Unit = Unit {0}
 IsListed keys shared.Bool = Unit {0}
 IsListed keys shared.Int = Unit {0}

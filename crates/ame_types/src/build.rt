@@ -9,7 +9,7 @@ ghost use Rattle.ame_types.specs.Shared.{shared_type};
 ghost use Rattle.ame_types.specs.Sizes.{max_type_nodes, type_nodes, shown_nodes};
 
 use crate::fault::{SharedFault, SharedShown, Shown, TypeFault, TypesFail};
-use crate::shared::Shared;
+use crate::shared_type::SharedType;
 use ame_term::{NoMemory, Ty, boxed, push};
 use std::alloc::Global;
 
@@ -46,7 +46,7 @@ impl From<BuildFail> for TypesFail {
 
 /// Builds a type, whose nodes are taken from those that are left.
 #[cycle(build)]
-fn build(ty: &Shared<'_>, alloc: Global, left: &mut usize) -> Result<Ty, BuildFail>
+fn build(ty: &SharedType<'_>, alloc: Global, left: &mut usize) -> Result<Ty, BuildFail>
     ensures ty { IfOk result (λ t. typ_of t ≡ shared_type ty.now) }
     ensures left { IfOk result (λ t. left.new + type_nodes (shared_type ty.now) ≡ left.old) }
     ensures large { IfErr result (λ e. e ≡ build_fail.TooLarge → left.old < type_nodes (shared_type ty.now)) }
@@ -56,15 +56,15 @@ fn build(ty: &Shared<'_>, alloc: Global, left: &mut usize) -> Result<Ty, BuildFa
     }
     *left -= 1;
     match ty {
-        Shared::Unit => Ok(Ty::Unit),
-        Shared::Bool => Ok(Ty::Bool),
-        Shared::Int => Ok(Ty::Int),
-        Shared::Ref(_, sort, content) => Ok(Ty::Ref(*sort, part(content, alloc, left)?)),
-        Shared::Fun(_, effect, param, answer) => {
+        SharedType::Unit => Ok(Ty::Unit),
+        SharedType::Bool => Ok(Ty::Bool),
+        SharedType::Int => Ok(Ty::Int),
+        SharedType::Ref(_, sort, content) => Ok(Ty::Ref(*sort, part(content, alloc, left)?)),
+        SharedType::Fun(_, effect, param, answer) => {
             let param = part(param, alloc, left)?;
             Ok(Ty::Fun(*effect, param, part(answer, alloc, left)?))
         }
-        Shared::Pair(_, first, second) => {
+        SharedType::Pair(_, first, second) => {
             let first = part(first, alloc, left)?;
             Ok(Ty::Pair(first, part(second, alloc, left)?))
         }
@@ -73,7 +73,7 @@ fn build(ty: &Shared<'_>, alloc: Global, left: &mut usize) -> Result<Ty, BuildFa
 
 /// Builds a part of a type, as `build` does, in a box.
 #[cycle(build)]
-fn part(ty: &Shared<'_>, alloc: Global, left: &mut usize) -> Result<Box<Ty>, BuildFail>
+fn part(ty: &SharedType<'_>, alloc: Global, left: &mut usize) -> Result<Box<Ty>, BuildFail>
     ensures ty { IfOk result (λ b. typ_of b.value ≡ shared_type ty.now) }
     ensures left { IfOk result (λ b. left.new + type_nodes (shared_type ty.now) ≡ left.old) }
     ensures large { IfErr result (λ e. e ≡ build_fail.TooLarge → left.old < type_nodes (shared_type ty.now)) }
@@ -83,7 +83,7 @@ fn part(ty: &Shared<'_>, alloc: Global, left: &mut usize) -> Result<Box<Ty>, Bui
 }
 
 /// Builds types, which have at most `LARGEST` nodes together.
-pub fn build_all(tys: &[Shared<'_>], alloc: Global) -> Result<Vec<Ty>, BuildFail>
+pub fn build_all(tys: &[SharedType<'_>], alloc: Global) -> Result<Vec<Ty>, BuildFail>
     ensures tys { IfOk result (λ all. map typ_of all.items ≡ map shared_type tys.now) }
     ensures small { IfOk result (λ all. sum (map type_nodes (map shared_type tys.now)) ≤ max_type_nodes) }
     ensures large { IfErr result (λ e. e ≡ build_fail.TooLarge → max_type_nodes < sum (map type_nodes (map shared_type tys.now))) }

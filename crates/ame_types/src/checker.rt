@@ -7,13 +7,13 @@ ghost use Rattle.ame_term.specs.declared.types.Binary.TheVariants as binary;
 ghost use Rattle.ame_types.specs.Scope.{AreListed};
 ghost use Rattle.ame_types.specs.Checks.{Checks, IsCheckable, KeepsListed, function_tree};
 
+use crate::check_state::{CheckState, Checker};
 use crate::expect::{agree, applied, constant, expect, op_ty, require, under, unfit, written};
 use crate::fault::CheckFail;
 use crate::rule;
-use crate::scope::Scope;
-use crate::seen::{Checker, Seen};
-use crate::shared::Shared;
-use crate::site::{Callee, Form, Part, Site};
+use crate::shared_type::SharedType;
+use crate::site::{Callee, FormSite, PartSite, Site};
+use crate::type_scope::TypeScope;
 use crate::unary::{fill, reserve, stand, unary_ty};
 use ame_term::{Effect, Function, Name, Op, Own, Term, Unary, Value};
 
@@ -23,10 +23,10 @@ impl Checker<'_> {
     #[tactic(auto, using(ame_term::proofs::TreesLemmas::tree_of_do), unfolding(ame_term::specs::SourceTerm::nodes))]
     pub fn term<'t>(
         &self,
-        seen: &mut Seen<'t>,
+        seen: &mut CheckState<'t>,
         site: Site<'_, 't>,
         term: &Term,
-    ) -> Result<Shared<'t>, CheckFail<'t>>
+    ) -> Result<SharedType<'t>, CheckFail<'t>>
         requires source { IsCheckable self.now site.scope.now seen.old (tree_of term.now) }
         requires listed { AreListed seen.old.types.keys.keys site.scope.now }
         ensures ty { Checks self.now site.entry seen.old seen.new (tree_of term.now) result }
@@ -61,10 +61,10 @@ impl Checker<'_> {
 
     fn held<'t>(
         &self,
-        seen: &mut Seen<'t>,
+        seen: &mut CheckState<'t>,
         site: Site<'_, 't>,
         value: &Value,
-    ) -> Result<Shared<'t>, CheckFail<'t>>
+    ) -> Result<SharedType<'t>, CheckFail<'t>>
         requires source { IsCheckable self.now site.scope.now seen.old (Tree.Held (val_of value.now)) }
         requires listed { AreListed seen.old.types.keys.keys site.scope.now }
         ensures ty { Checks self.now site.entry seen.old seen.new (Tree.Held (val_of value.now)) result }
@@ -76,10 +76,10 @@ impl Checker<'_> {
 
     fn name<'t>(
         &self,
-        seen: &mut Seen<'t>,
+        seen: &mut CheckState<'t>,
         site: Site<'_, 't>,
         name: Name,
-    ) -> Result<Shared<'t>, CheckFail<'t>>
+    ) -> Result<SharedType<'t>, CheckFail<'t>>
         requires source { IsCheckable self.now site.scope.now seen.old (Tree.Var name.0) }
         requires listed { AreListed seen.old.types.keys.keys site.scope.now }
         ensures ty { Checks self.now site.entry seen.old seen.new (Tree.Var name.0) result }
@@ -92,10 +92,10 @@ impl Checker<'_> {
     #[cycle(checker)]
     fn function<'t>(
         &self,
-        seen: &mut Seen<'t>,
+        seen: &mut CheckState<'t>,
         site: Site<'_, 't>,
         function: &Function,
-    ) -> Result<Shared<'t>, CheckFail<'t>>
+    ) -> Result<SharedType<'t>, CheckFail<'t>>
         requires source { IsCheckable self.now site.scope.now seen.old (function_tree function.now) }
         requires listed { AreListed seen.old.types.keys.keys site.scope.now }
         ensures ty { Checks self.now site.entry seen.old seen.new (function_tree function.now) result }
@@ -110,10 +110,10 @@ impl Checker<'_> {
     #[cycle(checker)]
     fn plain<'t>(
         &self,
-        seen: &mut Seen<'t>,
+        seen: &mut CheckState<'t>,
         site: Site<'_, 't>,
         function: &Function,
-    ) -> Result<Shared<'t>, CheckFail<'t>>
+    ) -> Result<SharedType<'t>, CheckFail<'t>>
         requires none { function.now.own ≡ None }
         requires source { IsCheckable self.now site.scope.now seen.old (function_tree function.now) }
         requires listed { AreListed seen.old.types.keys.keys site.scope.now }
@@ -122,7 +122,7 @@ impl Checker<'_> {
     {
         seen.next += 1;
         let param = seen.types.written(&function.param_ty)?;
-        let scope = Scope::Bound(&*site.scope, function.param, param);
+        let scope = TypeScope::Bound(&*site.scope, function.param, param);
         let inner = Site {
             scope: &scope,
             effect: function.effect,
@@ -135,11 +135,11 @@ impl Checker<'_> {
     #[cycle(checker)]
     fn recursive<'t>(
         &self,
-        seen: &mut Seen<'t>,
+        seen: &mut CheckState<'t>,
         site: Site<'_, 't>,
         function: &Function,
         own: &Own,
-    ) -> Result<Shared<'t>, CheckFail<'t>>
+    ) -> Result<SharedType<'t>, CheckFail<'t>>
         requires own { function.now.own ≡ Some own.now }
         requires source { IsCheckable self.now site.scope.now seen.old (function_tree function.now) }
         requires listed { AreListed seen.old.types.keys.keys site.scope.now }
@@ -151,32 +151,32 @@ impl Checker<'_> {
         let answer = seen.types.written(&own.result)?;
         let param = seen.types.written(&function.param_ty)?;
         let ty = seen.types.function(function.effect, param, answer)?;
-        let wanted = Scope::Beside(&*site.scope, answer);
-        let named = Scope::Bound(&wanted, own.name, ty);
-        let scope = Scope::Bound(&named, function.param, param);
+        let wanted = TypeScope::Beside(&*site.scope, answer);
+        let named = TypeScope::Bound(&wanted, own.name, ty);
+        let scope = TypeScope::Bound(&named, function.param, param);
         let inner = Site {
             scope: &scope,
             effect: function.effect,
         };
         let found = self.term(seen, inner, &function.body)?;
-        let body = Part { place, found };
+        let body = PartSite { place, found };
         expect(&seen.types, rule::TYPE_MISMATCH, &body, &answer, ty)
     }
 
     #[cycle(checker)]
     fn app<'t>(
         &self,
-        seen: &mut Seen<'t>,
+        seen: &mut CheckState<'t>,
         site: Site<'_, 't>,
         function: &Term,
         argument: &Term,
-    ) -> Result<Shared<'t>, CheckFail<'t>>
+    ) -> Result<SharedType<'t>, CheckFail<'t>>
         requires source { IsCheckable self.now site.scope.now seen.old (Tree.Two binary.App (tree_of function.now) (tree_of argument.now)) }
         requires listed { AreListed seen.old.types.keys.keys site.scope.now }
         ensures ty { Checks self.now site.entry seen.old seen.new (Tree.Two binary.App (tree_of function.now) (tree_of argument.now)) result }
         ensures listed { KeepsListed site.entry.scope.now seen.new result }
     {
-        let form = Form {
+        let form = FormSite {
             place: self.places[seen.next],
             effect: site.effect,
         };
@@ -184,30 +184,34 @@ impl Checker<'_> {
         let place = self.place(seen, function);
         let callee = self.term(seen, site, function)?;
         match callee {
-            Shared::Fun(_, effect, param, answer) => {
+            SharedType::Fun(_, effect, param, answer) => {
                 let place = self.place(seen, argument);
-                let scope = Scope::Beside(&*site.scope, callee);
+                let scope = TypeScope::Beside(&*site.scope, callee);
                 let found = self.term(seen, site.within(&scope), argument)?;
                 let callee = Callee {
                     effect,
                     param: *param,
                     answer: *answer,
                 };
-                applied(&seen.types, form, &Part { place, found }, callee)
+                applied(&seen.types, form, &PartSite { place, found }, callee)
             }
-            found => Err(unfit(seen.types.alloc, rule::NO_FUNCTION, &Part { place, found })),
+            found => Err(unfit(
+                seen.types.alloc,
+                rule::NO_FUNCTION,
+                &PartSite { place, found },
+            )),
         }
     }
 
     #[cycle(checker)]
     fn binding<'t>(
         &self,
-        seen: &mut Seen<'t>,
+        seen: &mut CheckState<'t>,
         site: Site<'_, 't>,
         name: Name,
         bound: &Term,
         body: &Term,
-    ) -> Result<Shared<'t>, CheckFail<'t>>
+    ) -> Result<SharedType<'t>, CheckFail<'t>>
         requires source { IsCheckable self.now site.scope.now seen.old (Tree.Let name.0 (tree_of bound.now) (tree_of body.now)) }
         requires listed { AreListed seen.old.types.keys.keys site.scope.now }
         ensures ty { Checks self.now site.entry seen.old seen.new (Tree.Let name.0 (tree_of bound.now) (tree_of body.now)) result }
@@ -215,7 +219,7 @@ impl Checker<'_> {
     {
         seen.next += 1;
         let ty = self.term(seen, site, bound)?;
-        let scope = Scope::Bound(&*site.scope, name, ty);
+        let scope = TypeScope::Bound(&*site.scope, name, ty);
         let body = self.term(seen, site.within(&scope), body)?;
         Ok(body)
     }
@@ -223,10 +227,10 @@ impl Checker<'_> {
     #[cycle(checker)]
     fn sequence<'t>(
         &self,
-        seen: &mut Seen<'t>,
+        seen: &mut CheckState<'t>,
         site: Site<'_, 't>,
         parts: &[Term],
-    ) -> Result<Shared<'t>, CheckFail<'t>>
+    ) -> Result<SharedType<'t>, CheckFail<'t>>
         requires source { IsCheckable self.now site.scope.now seen.old (Tree.Do (trees_of parts.now)) }
         requires listed { AreListed seen.old.types.keys.keys site.scope.now }
         ensures ty { Checks self.now site.entry seen.old seen.new (Tree.Do (trees_of parts.now)) result }
@@ -238,8 +242,8 @@ impl Checker<'_> {
             let part = &rest[0];
             let place = self.place(seen, part);
             let found = self.do_part(seen, site, part)?;
-            let part = Part { place, found };
-            require(&seen.types, rule::NOT_UNIT, &part, &Shared::Unit)?;
+            let part = PartSite { place, found };
+            require(&seen.types, rule::NOT_UNIT, &part, &SharedType::Unit)?;
             rest = rest.split_at(1).1;
         }
         let ty = self.term(seen, site, &rest[0])?;
@@ -250,10 +254,10 @@ impl Checker<'_> {
     #[cycle(checker)]
     fn do_part<'t>(
         &self,
-        seen: &mut Seen<'t>,
+        seen: &mut CheckState<'t>,
         site: Site<'_, 't>,
         part: &Term,
-    ) -> Result<Shared<'t>, CheckFail<'t>>
+    ) -> Result<SharedType<'t>, CheckFail<'t>>
         requires source { IsCheckable self.now site.scope.now seen.old (tree_of part.now) }
         requires listed { AreListed seen.old.types.keys.keys site.scope.now }
         ensures ty { Checks self.now site.entry seen.old seen.new (tree_of part.now) result }
@@ -268,12 +272,12 @@ impl Checker<'_> {
     #[cycle(checker)]
     fn choice<'t>(
         &self,
-        seen: &mut Seen<'t>,
+        seen: &mut CheckState<'t>,
         site: Site<'_, 't>,
         test: &Term,
         then: &Term,
         other: &Term,
-    ) -> Result<Shared<'t>, CheckFail<'t>>
+    ) -> Result<SharedType<'t>, CheckFail<'t>>
         requires source { IsCheckable self.now site.scope.now seen.old (Tree.If (tree_of test.now) (tree_of then.now) (tree_of other.now)) }
         requires listed { AreListed seen.old.types.keys.keys site.scope.now }
         ensures ty { Checks self.now site.entry seen.old seen.new (Tree.If (tree_of test.now) (tree_of then.now) (tree_of other.now)) result }
@@ -282,24 +286,24 @@ impl Checker<'_> {
         seen.next += 1;
         let place = self.place(seen, test);
         let found = self.term(seen, site, test)?;
-        let test = Part { place, found };
-        require(&seen.types, rule::TYPE_MISMATCH, &test, &Shared::Bool)?;
+        let test = PartSite { place, found };
+        require(&seen.types, rule::TYPE_MISMATCH, &test, &SharedType::Bool)?;
         let wanted = self.term(seen, site, then)?;
         let place = self.place(seen, other);
-        let scope = Scope::Beside(&*site.scope, wanted);
+        let scope = TypeScope::Beside(&*site.scope, wanted);
         let found = self.term(seen, site.within(&scope), other)?;
-        agree(&seen.types, &Part { place, found }, wanted)
+        agree(&seen.types, &PartSite { place, found }, wanted)
     }
 
     #[cycle(checker)]
     fn operation<'t>(
         &self,
-        seen: &mut Seen<'t>,
+        seen: &mut CheckState<'t>,
         site: Site<'_, 't>,
         op: Op,
         left: &Term,
         right: &Term,
-    ) -> Result<Shared<'t>, CheckFail<'t>>
+    ) -> Result<SharedType<'t>, CheckFail<'t>>
         requires source { IsCheckable self.now site.scope.now seen.old (Tree.Two (binary.Bin op) (tree_of left.now) (tree_of right.now)) }
         requires listed { AreListed seen.old.types.keys.keys site.scope.now }
         ensures ty { Checks self.now site.entry seen.old seen.new (Tree.Two (binary.Bin op) (tree_of left.now) (tree_of right.now)) result }
@@ -308,16 +312,16 @@ impl Checker<'_> {
         seen.next += 1;
         let place = self.place(seen, left);
         let found = self.term(seen, site, left)?;
-        let left = Part { place, found };
-        require(&seen.types, rule::TYPE_MISMATCH, &left, &Shared::Int)?;
+        let left = PartSite { place, found };
+        require(&seen.types, rule::TYPE_MISMATCH, &left, &SharedType::Int)?;
         let place = self.place(seen, right);
         let found = self.term(seen, site, right)?;
-        let right = Part { place, found };
+        let right = PartSite { place, found };
         expect(
             &seen.types,
             rule::TYPE_MISMATCH,
             &right,
-            &Shared::Int,
+            &SharedType::Int,
             op_ty(op),
         )
     }
@@ -325,17 +329,17 @@ impl Checker<'_> {
     #[cycle(checker)]
     fn one<'t>(
         &self,
-        seen: &mut Seen<'t>,
+        seen: &mut CheckState<'t>,
         site: Site<'_, 't>,
         op: Unary,
         part: &Term,
-    ) -> Result<Shared<'t>, CheckFail<'t>>
+    ) -> Result<SharedType<'t>, CheckFail<'t>>
         requires source { IsCheckable self.now site.scope.now seen.old (Tree.One op (tree_of part.now)) }
         requires listed { AreListed seen.old.types.keys.keys site.scope.now }
         ensures ty { Checks self.now site.entry seen.old seen.new (Tree.One op (tree_of part.now)) result }
         ensures listed { KeepsListed site.entry.scope.now seen.new result }
     {
-        let form = Form {
+        let form = FormSite {
             place: self.places[seen.next],
             effect: site.effect,
         };
@@ -345,23 +349,23 @@ impl Checker<'_> {
         let place = self.place(seen, part);
         let found = self.term(seen, site, part)?;
         fill(&mut seen.ref_tys, op, room, found);
-        unary_ty(&mut seen.types, op, form, &Part { place, found })
+        unary_ty(&mut seen.types, op, form, &PartSite { place, found })
     }
 
     #[cycle(checker)]
     fn set<'t>(
         &self,
-        seen: &mut Seen<'t>,
+        seen: &mut CheckState<'t>,
         site: Site<'_, 't>,
         cell: &Term,
         content: &Term,
-    ) -> Result<Shared<'t>, CheckFail<'t>>
+    ) -> Result<SharedType<'t>, CheckFail<'t>>
         requires source { IsCheckable self.now site.scope.now seen.old (Tree.Two binary.Set (tree_of cell.now) (tree_of content.now)) }
         requires listed { AreListed seen.old.types.keys.keys site.scope.now }
         ensures ty { Checks self.now site.entry seen.old seen.new (Tree.Two binary.Set (tree_of cell.now) (tree_of content.now)) result }
         ensures listed { KeepsListed site.entry.scope.now seen.new result }
     {
-        let form = Form {
+        let form = FormSite {
             place: self.places[seen.next],
             effect: site.effect,
         };
@@ -369,23 +373,27 @@ impl Checker<'_> {
         let place = self.place(seen, cell);
         let target = self.term(seen, site, cell)?;
         match target {
-            Shared::Ref(_, sort, wanted) => {
+            SharedType::Ref(_, sort, wanted) => {
                 let place = self.place(seen, content);
-                let scope = Scope::Beside(&*site.scope, target);
+                let scope = TypeScope::Beside(&*site.scope, target);
                 let found = self.term(seen, site.within(&scope), content)?;
-                written(&seen.types, form, &Part { place, found }, sort, wanted)
+                written(&seen.types, form, &PartSite { place, found }, sort, wanted)
             }
-            found => Err(unfit(seen.types.alloc, rule::NO_REFERENCE, &Part { place, found })),
+            found => Err(unfit(
+                seen.types.alloc,
+                rule::NO_REFERENCE,
+                &PartSite { place, found },
+            )),
         }
     }
 
     #[cycle(checker)]
     fn spawn<'t>(
         &self,
-        seen: &mut Seen<'t>,
+        seen: &mut CheckState<'t>,
         site: Site<'_, 't>,
         body: &Term,
-    ) -> Result<Shared<'t>, CheckFail<'t>>
+    ) -> Result<SharedType<'t>, CheckFail<'t>>
         requires source { IsCheckable self.now site.scope.now seen.old (Tree.Async (tree_of body.now)) }
         requires listed { AreListed seen.old.types.keys.keys site.scope.now }
         ensures ty { Checks self.now site.entry seen.old seen.new (Tree.Async (tree_of body.now)) result }
@@ -394,29 +402,29 @@ impl Checker<'_> {
         seen.next += 1;
         let place = self.place(seen, body);
         let found = self.term(seen, site.under(Effect::Protected), body)?;
-        let body = Part { place, found };
+        let body = PartSite { place, found };
         expect(
             &seen.types,
             rule::NOT_UNIT,
             &body,
-            &Shared::Unit,
-            Shared::Unit,
+            &SharedType::Unit,
+            SharedType::Unit,
         )
     }
 
     #[cycle(checker)]
     fn unprotected<'t>(
         &self,
-        seen: &mut Seen<'t>,
+        seen: &mut CheckState<'t>,
         site: Site<'_, 't>,
         part: &Term,
-    ) -> Result<Shared<'t>, CheckFail<'t>>
+    ) -> Result<SharedType<'t>, CheckFail<'t>>
         requires source { IsCheckable self.now site.scope.now seen.old (Tree.Unprotected (tree_of part.now)) }
         requires listed { AreListed seen.old.types.keys.keys site.scope.now }
         ensures ty { Checks self.now site.entry seen.old seen.new (Tree.Unprotected (tree_of part.now)) result }
         ensures listed { KeepsListed site.entry.scope.now seen.new result }
     {
-        let form = Form {
+        let form = FormSite {
             place: self.places[seen.next],
             effect: site.effect,
         };
@@ -434,11 +442,11 @@ impl Checker<'_> {
     #[cycle(checker)]
     fn pair<'t>(
         &self,
-        seen: &mut Seen<'t>,
+        seen: &mut CheckState<'t>,
         site: Site<'_, 't>,
         first: &Term,
         second: &Term,
-    ) -> Result<Shared<'t>, CheckFail<'t>>
+    ) -> Result<SharedType<'t>, CheckFail<'t>>
         requires source { IsCheckable self.now site.scope.now seen.old (Tree.Two binary.Pair (tree_of first.now) (tree_of second.now)) }
         requires listed { AreListed seen.old.types.keys.keys site.scope.now }
         ensures ty { Checks self.now site.entry seen.old seen.new (Tree.Two binary.Pair (tree_of first.now) (tree_of second.now)) result }
@@ -446,7 +454,7 @@ impl Checker<'_> {
     {
         seen.next += 1;
         let first = self.term(seen, site, first)?;
-        let scope = Scope::Beside(&*site.scope, first);
+        let scope = TypeScope::Beside(&*site.scope, first);
         let second = self.term(seen, site.within(&scope), second)?;
         let ty = seen.types.pair(first, second)?;
         Ok(ty)

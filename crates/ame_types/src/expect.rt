@@ -6,21 +6,21 @@ ghost use Rattle.ame_term.specs.Shown.{Shown as Seen, wrong_effect, wrong_sort, 
 ghost use Rattle.ame_term.specs.Typing.{same_type, same_effect, need, breaks, want, fits, touches, op_type, read_row, peeked_row, first_of as first_of_pair, second_of as second_of_pair, typed_value, no_cells};
 ghost use Rattle.ame_term.specs.Tree.{Typ};
 ghost use Rattle.ame_term.specs.SourceTerm.{IsConstant};
-ghost use Rattle.ame_types.specs.declared.shared.Key.{Key};
+ghost use Rattle.ame_types.specs.declared.shared_type.Key.{Key};
 ghost use Rattle.ame_types.specs.Shared.{shared_type, IsListed};
-ghost use Rattle.ame_types.specs.Fault.{AnswersType, PassesTest, StopsAt, mismatch, shared_fault};
+ghost use Rattle.ame_types.specs.Fault.{AnswersType, PassesTest, IsFaultOf, mismatch, shared_fault};
 
 use crate::fault::{CheckFail, SharedFault, SharedShown};
 use crate::rule;
-use crate::shared::Shared;
-use crate::site::{Callee, Form, Part};
+use crate::shared_type::SharedType;
+use crate::site::{Callee, FormSite, PartSite};
 use crate::table::Types;
 use ame_term::{Effect, Op, ScalarTy, Sort, Value, boxed};
 use std::alloc::Global;
 
 /// Stops a check at a fault.
 fn stop(alloc: Global, fault: SharedFault<'_>) -> CheckFail<'_>
-    ensures { StopsAt (Err (shared_fault fault.entry)) result }
+    ensures { IsFaultOf (Err (shared_fault fault.entry)) result }
 {
     match boxed(alloc, fault) {
         Ok(fault) => CheckFail::Fault(fault),
@@ -29,8 +29,13 @@ fn stop(alloc: Global, fault: SharedFault<'_>) -> CheckFail<'_>
 }
 
 /// Stops at a part that has another type than the wanted one.
-fn mismatched<'t>(alloc: Global, rule: u8, part: &Part<'t>, wanted: &Shared<'t>) -> CheckFail<'t>
-    ensures { StopsAt (mismatch rule part.now.place (shared_type part.now.found) (shared_type wanted.now)) result }
+fn mismatched<'t>(
+    alloc: Global,
+    rule: u8,
+    part: &PartSite<'t>,
+    wanted: &SharedType<'t>,
+) -> CheckFail<'t>
+    ensures { IsFaultOf (mismatch rule part.now.place (shared_type part.now.found) (shared_type wanted.now)) result }
 {
     stop(
         alloc,
@@ -44,8 +49,8 @@ fn mismatched<'t>(alloc: Global, rule: u8, part: &Part<'t>, wanted: &Shared<'t>)
 }
 
 /// Stops at a part whose type has no use there.
-pub fn unfit<'t>(alloc: Global, rule: u8, part: &Part<'t>) -> CheckFail<'t>
-    ensures { StopsAt (breaks rule part.now.place (Seen.Ty (shared_type part.now.found)) Seen.Nothing) result }
+pub fn unfit<'t>(alloc: Global, rule: u8, part: &PartSite<'t>) -> CheckFail<'t>
+    ensures { IsFaultOf (breaks rule part.now.place (Seen.Ty (shared_type part.now.found)) Seen.Nothing) result }
 {
     stop(
         alloc,
@@ -62,10 +67,10 @@ pub fn unfit<'t>(alloc: Global, rule: u8, part: &Part<'t>) -> CheckFail<'t>
 pub fn expect<'t>(
     types: &Types<'t>,
     rule: u8,
-    part: &Part<'t>,
-    wanted: &Shared<'t>,
-    then: Shared<'t>,
-) -> Result<Shared<'t>, CheckFail<'t>>
+    part: &PartSite<'t>,
+    wanted: &SharedType<'t>,
+    then: SharedType<'t>,
+) -> Result<SharedType<'t>, CheckFail<'t>>
     requires found { IsListed types.now.keys.keys part.now.found }
     requires wanted { IsListed types.now.keys.keys wanted.now }
     requires then { IsListed types.now.keys.keys then }
@@ -83,8 +88,8 @@ pub fn expect<'t>(
 pub fn require<'t>(
     types: &Types<'t>,
     rule: u8,
-    part: &Part<'t>,
-    wanted: &Shared<'t>,
+    part: &PartSite<'t>,
+    wanted: &SharedType<'t>,
 ) -> Result<(), CheckFail<'t>>
     requires found { IsListed types.now.keys.keys part.now.found }
     requires wanted { IsListed types.now.keys.keys wanted.now }
@@ -98,7 +103,12 @@ pub fn require<'t>(
 }
 
 /// Tests that the form stands under the wanted effect.
-pub fn under<'t>(alloc: Global, rule: u8, form: Form, wanted: Effect) -> Result<(), CheckFail<'t>>
+pub fn under<'t>(
+    alloc: Global,
+    rule: u8,
+    form: FormSite,
+    wanted: Effect,
+) -> Result<(), CheckFail<'t>>
     ensures { PassesTest (same_effect form.effect wanted) (breaks rule form.place (Seen.Effect form.effect) (Seen.Effect wanted)) result }
 {
     if form.effect == wanted {
@@ -138,9 +148,9 @@ pub fn known<'t>(alloc: Global, devices: u32, device: u32, at: u32) -> Result<()
 /// Returns the wanted type, if the part has it.
 pub fn agree<'t>(
     types: &Types<'t>,
-    part: &Part<'t>,
-    wanted: Shared<'t>,
-) -> Result<Shared<'t>, CheckFail<'t>>
+    part: &PartSite<'t>,
+    wanted: SharedType<'t>,
+) -> Result<SharedType<'t>, CheckFail<'t>>
     requires found { IsListed types.now.keys.keys part.now.found }
     requires wanted { IsListed types.now.keys.keys wanted }
     ensures ty { AnswersType (want part.now.place (shared_type part.now.found) (shared_type wanted.entry) (Ok (shared_type wanted.entry))) result }
@@ -160,7 +170,7 @@ fn may_touch(sort: Sort, q: Effect) -> bool
 }
 
 /// Tests that a function of an effect may be called by the form.
-fn callable<'t>(alloc: Global, form: Form, effect: Effect) -> Result<(), CheckFail<'t>>
+fn callable<'t>(alloc: Global, form: FormSite, effect: Effect) -> Result<(), CheckFail<'t>>
     ensures { PassesTest (fits effect form.effect) (breaks wrong_effect form.place (Seen.Effect effect) (Seen.Effect form.effect)) result }
 {
     if effect == Effect::Either || effect == form.effect {
@@ -179,7 +189,7 @@ fn callable<'t>(alloc: Global, form: Form, effect: Effect) -> Result<(), CheckFa
 }
 
 /// Tests that a reference of a sort may be read and written by the form.
-fn touchable<'t>(alloc: Global, form: Form, sort: Sort) -> Result<(), CheckFail<'t>>
+fn touchable<'t>(alloc: Global, form: FormSite, sort: Sort) -> Result<(), CheckFail<'t>>
     ensures { PassesTest (touches sort form.effect) (breaks wrong_sort form.place (Seen.Sort sort) (Seen.Effect form.effect)) result }
 {
     if may_touch(sort, form.effect) {
@@ -200,10 +210,10 @@ fn touchable<'t>(alloc: Global, form: Form, sort: Sort) -> Result<(), CheckFail<
 /// Returns the type of a call of a function of the effect with the argument.
 pub fn applied<'t>(
     types: &Types<'t>,
-    form: Form,
-    argument: &Part<'t>,
+    form: FormSite,
+    argument: &PartSite<'t>,
     callee: Callee<'t>,
-) -> Result<Shared<'t>, CheckFail<'t>>
+) -> Result<SharedType<'t>, CheckFail<'t>>
     requires found { IsListed types.now.keys.keys argument.now.found }
     requires param { IsListed types.now.keys.keys callee.param }
     requires answer { IsListed types.now.keys.keys callee.answer }
@@ -216,13 +226,17 @@ pub fn applied<'t>(
 }
 
 /// Returns the type of what is read through a value of the part's type.
-pub fn read<'t>(types: &Types<'t>, form: Form, part: &Part<'t>) -> Result<Shared<'t>, CheckFail<'t>>
+pub fn read<'t>(
+    types: &Types<'t>,
+    form: FormSite,
+    part: &PartSite<'t>,
+) -> Result<SharedType<'t>, CheckFail<'t>>
     requires { IsListed types.now.keys.keys part.now.found }
     ensures ty { AnswersType (read_row form.place part.now.place form.effect (shared_type part.now.found)) result }
     ensures listed { IfOk result (λ t. IsListed types.now.keys.keys t) }
 {
     match part.found {
-        Shared::Ref(_, sort, content) => {
+        SharedType::Ref(_, sort, content) => {
             touchable(types.alloc, form, sort)?;
             Ok(*content)
         }
@@ -231,14 +245,18 @@ pub fn read<'t>(types: &Types<'t>, form: Form, part: &Part<'t>) -> Result<Shared
 }
 
 /// Returns the type of what is peeked at through a value of the part's type.
-pub fn peeked<'t>(types: &Types<'t>, at: u32, part: &Part<'t>) -> Result<Shared<'t>, CheckFail<'t>>
+pub fn peeked<'t>(
+    types: &Types<'t>,
+    at: u32,
+    part: &PartSite<'t>,
+) -> Result<SharedType<'t>, CheckFail<'t>>
     requires { IsListed types.now.keys.keys part.now.found }
     ensures ty { AnswersType (peeked_row at part.now.place (shared_type part.now.found)) result }
     ensures listed { IfOk result (λ t. IsListed types.now.keys.keys t) }
 {
     match part.found {
-        Shared::Ref(_, Sort::Protected, content) => Ok(*content),
-        Shared::Ref(_, sort, _) => Err(stop(
+        SharedType::Ref(_, Sort::Protected, content) => Ok(*content),
+        SharedType::Ref(_, sort, _) => Err(stop(
             types.alloc,
             SharedFault {
                 rule: rule::WRONG_SORT,
@@ -254,11 +272,11 @@ pub fn peeked<'t>(types: &Types<'t>, at: u32, part: &Part<'t>) -> Result<Shared<
 /// Returns the type of a write of the content through a reference of the sort.
 pub fn written<'t>(
     types: &Types<'t>,
-    form: Form,
-    content: &Part<'t>,
+    form: FormSite,
+    content: &PartSite<'t>,
     sort: Sort,
-    wanted: &Shared<'t>,
-) -> Result<Shared<'t>, CheckFail<'t>>
+    wanted: &SharedType<'t>,
+) -> Result<SharedType<'t>, CheckFail<'t>>
     requires found { IsListed types.now.keys.keys content.now.found }
     requires wanted { IsListed types.now.keys.keys wanted.now }
     ensures ty { AnswersType (want content.now.place (shared_type content.now.found) (shared_type wanted.now) (need (touches sort form.effect) (breaks wrong_sort form.place (Seen.Sort sort) (Seen.Effect form.effect)) (Ok Typ.Unit))) result }
@@ -266,55 +284,58 @@ pub fn written<'t>(
 {
     require(types, rule::TYPE_MISMATCH, content, wanted)?;
     touchable(types.alloc, form, sort)?;
-    Ok(Shared::Unit)
+    Ok(SharedType::Unit)
 }
 
 /// Returns the type of the first part of a pair.
-pub fn first_of<'t>(types: &Types<'t>, part: &Part<'t>) -> Result<Shared<'t>, CheckFail<'t>>
+pub fn first_of<'t>(types: &Types<'t>, part: &PartSite<'t>) -> Result<SharedType<'t>, CheckFail<'t>>
     requires { IsListed types.now.keys.keys part.now.found }
     ensures ty { AnswersType (first_of_pair part.now.place (shared_type part.now.found)) result }
     ensures listed { IfOk result (λ t. IsListed types.now.keys.keys t) }
 {
     match part.found {
-        Shared::Pair(_, first, _) => Ok(*first),
+        SharedType::Pair(_, first, _) => Ok(*first),
         _ => Err(unfit(types.alloc, rule::NO_PAIR, part)),
     }
 }
 
 /// Returns the type of the second part of a pair.
-pub fn second_of<'t>(types: &Types<'t>, part: &Part<'t>) -> Result<Shared<'t>, CheckFail<'t>>
+pub fn second_of<'t>(
+    types: &Types<'t>,
+    part: &PartSite<'t>,
+) -> Result<SharedType<'t>, CheckFail<'t>>
     requires { IsListed types.now.keys.keys part.now.found }
     ensures ty { AnswersType (second_of_pair part.now.place (shared_type part.now.found)) result }
     ensures listed { IfOk result (λ t. IsListed types.now.keys.keys t) }
 {
     match part.found {
-        Shared::Pair(_, _, second) => Ok(*second),
+        SharedType::Pair(_, _, second) => Ok(*second),
         _ => Err(unfit(types.alloc, rule::NO_PAIR, part)),
     }
 }
 
 /// Returns the type that an operator gives.
-pub fn op_ty<'t>(op: Op) -> Shared<'t>
+pub fn op_ty<'t>(op: Op) -> SharedType<'t>
     ensures ty { shared_type result ≡ op_type op }
     ensures listed { (keys : List Key) → IsListed keys result }
 {
     match op.gives() {
-        ScalarTy::Bool => Shared::Bool,
-        ScalarTy::Int => Shared::Int,
+        ScalarTy::Bool => SharedType::Bool,
+        ScalarTy::Int => SharedType::Int,
     }
 }
 
 /// Returns the type of a constant.
 #[tactic(auto, unfolding(ame_term::specs::Typing::typed_value))]
-pub fn constant<'t>(value: &Value) -> Shared<'t>
+pub fn constant<'t>(value: &Value) -> SharedType<'t>
     requires { IsConstant (val_of value.now) }
     ensures ty { (devices at : ℕ) → typed_value devices no_cells at (val_of value.now) ≡ Ok (shared_type result) }
     ensures listed { (keys : List Key) → IsListed keys result }
 {
     match value {
-        Value::Unit => Shared::Unit,
-        Value::Bool(_) => Shared::Bool,
-        Value::Int(_) => Shared::Int,
+        Value::Unit => SharedType::Unit,
+        Value::Bool(_) => SharedType::Bool,
+        Value::Int(_) => SharedType::Int,
         _ => unreachable!(),
     }
 }

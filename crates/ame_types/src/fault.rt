@@ -2,7 +2,7 @@
 
 ghost use Rattle.std.specs.Prelude.{◌≡◌};
 
-use crate::shared::Shared;
+use crate::shared_type::SharedType;
 use ame_term::{Effect, NoMemory, Sort, Ty};
 
 /// Lists what a fault can show.
@@ -38,7 +38,7 @@ pub enum TypesFail {
 #[derive(Clone, Copy)]
 pub enum SharedShown<'t> {
     Nothing,
-    Ty(Shared<'t>),
+    Ty(SharedType<'t>),
     Effect(Effect),
     Sort(Sort),
     Device(u32),

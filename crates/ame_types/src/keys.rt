@@ -3,10 +3,10 @@
 ghost use Rattle.std.specs.Prelude.{◌≡◌};
 ghost use Rattle.ame_types.specs.Shared as spec;
 
-use crate::shared::{Key, Shared, Zone};
+use crate::shared_type::{Key, SharedType, Zone};
 use ame_term::{Effect, Sort};
 
-pub fn ref_key(sort: Sort, content: &Shared<'_>) -> Key
+pub fn ref_key(sort: Sort, content: &SharedType<'_>) -> Key
     ensures { result ≡ spec.ref_key sort content.now }
 {
     match sort {
@@ -15,7 +15,7 @@ pub fn ref_key(sort: Sort, content: &Shared<'_>) -> Key
     }
 }
 
-pub fn fun_key(effect: Effect, param: &Shared<'_>, answer: &Shared<'_>) -> Key
+pub fn fun_key(effect: Effect, param: &SharedType<'_>, answer: &SharedType<'_>) -> Key
     ensures { result ≡ spec.fun_key effect param.now answer.now }
 {
     match effect {
@@ -25,7 +25,7 @@ pub fn fun_key(effect: Effect, param: &Shared<'_>, answer: &Shared<'_>) -> Key
     }
 }
 
-pub fn pair_key(first: &Shared<'_>, second: &Shared<'_>) -> Key
+pub fn pair_key(first: &SharedType<'_>, second: &SharedType<'_>) -> Key
     ensures { result ≡ spec.pair_key first.now second.now }
 {
     Key::Pair(first.mark(), second.mark())

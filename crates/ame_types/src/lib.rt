@@ -2,17 +2,17 @@
 #![tactic(auto)]
 
 mod build;
+mod check_state;
 mod checker;
 mod expect;
 mod fault;
 mod keys;
 mod program;
 pub mod rule;
-mod scope;
-mod seen;
-mod shared;
+mod shared_type;
 mod site;
 mod table;
+mod type_scope;
 mod unary;
 
 pub use fault::{Shown, TypeFault, TypesFail};

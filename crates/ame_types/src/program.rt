@@ -4,19 +4,19 @@ ghost use Rattle.std.specs.Prelude.{◌≡◌, ◌≤◌, [], map, Err, IfOk, If
 ghost use Rattle.ame_term.specs.View.{typ_of, tree_of};
 ghost use Rattle.ame_term.specs.Typing.{typing, ref_types, Accepts};
 ghost use Rattle.ame_types.specs.Limits.{max_devices};
-ghost use Rattle.ame_types.specs.Fault.{IsFirstFault, StopsAt, shared_fault};
+ghost use Rattle.ame_types.specs.Fault.{IsFirstFault, IsFaultOf, shared_fault};
 ghost use Rattle.ame_types.specs.Shared.{shared_type};
 ghost use Rattle.ame_types.specs.Sizes.{answer_nodes, IsFailSized, IsSized};
 
 use crate::build::{build_all, build_fault};
+use crate::check_state::{CheckState, Checker};
 use crate::expect::require;
 use crate::fault::{CheckFail, SharedFault, TypesFail};
 use crate::rule;
-use crate::scope::Scope;
-use crate::seen::{Checker, Seen};
-use crate::shared::Shared;
-use crate::site::{Part, Site};
+use crate::shared_type::SharedType;
+use crate::site::{PartSite, Site};
 use crate::table::Types;
+use crate::type_scope::TypeScope;
 use ame_term::{Accepted, Effect, Program, Ty};
 use bumpalo::Bump;
 use std::alloc::Global;
@@ -45,7 +45,7 @@ fn ref_tys(alloc: Global, program: &Program, devices: u32) -> Result<Vec<Ty>, Ty
     ensures size { IsSized (answer_nodes (typing devices program.now.places.items (tree_of program.now.term)) (ref_types devices program.now.places.items (tree_of program.now.term))) result }
 {
     let arena = Bump::new(alloc);
-    let mut seen = Seen {
+    let mut seen = CheckState {
         next: 0,
         ref_tys: Vec::new(alloc),
         types: Types::new(alloc, &arena),
@@ -58,11 +58,15 @@ fn ref_tys(alloc: Global, program: &Program, devices: u32) -> Result<Vec<Ty>, Ty
 }
 
 /// Checks a program from its first node on, and lists the types that its `ref` forms store.
-fn stored<'t>(seen: &mut Seen<'t>, program: &Program, devices: u32) -> Result<(), CheckFail<'t>>
+fn stored<'t>(
+    seen: &mut CheckState<'t>,
+    program: &Program,
+    devices: u32,
+) -> Result<(), CheckFail<'t>>
     requires next { seen.old.next ≡ 0 }
     requires none { seen.old.ref_tys.items ≡ [] }
     ensures accepts { OnOk result (Accepts devices program.now.places.items (tree_of program.now.term) (map shared_type seen.new.ref_tys.items)) }
-    ensures fault { IfErr result (StopsAt (typing devices program.now.places.items (tree_of program.now.term))) }
+    ensures fault { IfErr result (IsFaultOf (typing devices program.now.places.items (tree_of program.now.term))) }
 {
     let checker = Checker {
         devices,
@@ -70,12 +74,12 @@ fn stored<'t>(seen: &mut Seen<'t>, program: &Program, devices: u32) -> Result<()
     };
     let place = checker.place(&*seen, &program.term);
     let site = Site {
-        scope: &Scope::Empty,
+        scope: &TypeScope::Empty,
         effect: Effect::Protected,
     };
     let found = checker.term(&mut *seen, site, &program.term)?;
-    let whole = Part { place, found };
-    require(&seen.types, rule::NOT_UNIT, &whole, &Shared::Unit)?;
+    let whole = PartSite { place, found };
+    require(&seen.types, rule::NOT_UNIT, &whole, &SharedType::Unit)?;
     Ok(())
 }
 

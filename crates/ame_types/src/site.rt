@@ -1,13 +1,13 @@
 //! The forms that rules are applied to, and their parts.
 
-use crate::scope::Scope;
-use crate::shared::Shared;
+use crate::shared_type::SharedType;
+use crate::type_scope::TypeScope;
 use ame_term::Effect;
 
 /// The names in scope at a form, and the effect under which it stands.
 #[derive(Clone, Copy)]
 pub struct Site<'a, 't> {
-    pub scope: &'a Scope<'a, 't>,
+    pub scope: &'a TypeScope<'a, 't>,
     pub effect: Effect,
 }
 
@@ -16,7 +16,7 @@ impl<'a, 't> Site<'a, 't> {
 
     /// Returns the site with these names in scope.
     #[inline]
-    pub fn within<'b>(self, scope: &'b Scope<'b, 't>) -> Site<'b, 't>
+    pub fn within<'b>(self, scope: &'b TypeScope<'b, 't>) -> Site<'b, 't>
         ensures scope { result.scope.now ≡ scope.now }
         ensures effect { result.effect ≡ self.entry.effect }
     {
@@ -41,22 +41,22 @@ impl<'a, 't> Site<'a, 't> {
 
 /// The place of a form in the text, and the effect under which it stands.
 #[derive(Clone, Copy)]
-pub struct Form {
+pub struct FormSite {
     pub place: u32,
     pub effect: Effect,
 }
 
 /// The place of a part of a form, and the type that was found for it.
 #[derive(Clone, Copy)]
-pub struct Part<'t> {
+pub struct PartSite<'t> {
     pub place: u32,
-    pub found: Shared<'t>,
+    pub found: SharedType<'t>,
 }
 
 /// The parts of a function's type.
 #[derive(Clone, Copy)]
 pub struct Callee<'t> {
     pub effect: Effect,
-    pub param: Shared<'t>,
-    pub answer: Shared<'t>,
+    pub param: SharedType<'t>,
+    pub answer: SharedType<'t>,
 }

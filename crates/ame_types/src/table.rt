@@ -7,7 +7,7 @@ ghost use Rattle.ame_term.specs.Typing.{same_type};
 ghost use Rattle.ame_types.specs.Shared.{shared_type, IsListed, Lengthens};
 
 use crate::keys::{fun_key, pair_key, ref_key};
-use crate::shared::{Key, Shared};
+use crate::shared_type::{Key, SharedType};
 use ame_term::{Effect, NoMemory, Sort, Ty};
 use bumpalo::Bump;
 use indexmap::IndexSet;
@@ -40,7 +40,11 @@ impl<'t> Types<'t> {
         Ok(number)
     }
 
-    pub fn reference(&mut self, sort: Sort, content: Shared<'t>) -> Result<Shared<'t>, NoMemory>
+    pub fn reference(
+        &mut self,
+        sort: Sort,
+        content: SharedType<'t>,
+    ) -> Result<SharedType<'t>, NoMemory>
         requires { IsListed self.old.keys.keys content }
         ensures stays { Lengthens self.old.keys.keys self.new.keys.keys }
         ensures ty { IfOk result (λ t. shared_type t ≡ Typ.Ref sort (shared_type content.entry)) }
@@ -48,15 +52,15 @@ impl<'t> Types<'t> {
     {
         let number = self.number(ref_key(sort, &content))?;
         let content = self.arena.try_alloc(content)?;
-        Ok(Shared::Ref(number, sort, content))
+        Ok(SharedType::Ref(number, sort, content))
     }
 
     pub fn function(
         &mut self,
         effect: Effect,
-        param: Shared<'t>,
-        answer: Shared<'t>,
-    ) -> Result<Shared<'t>, NoMemory>
+        param: SharedType<'t>,
+        answer: SharedType<'t>,
+    ) -> Result<SharedType<'t>, NoMemory>
         requires param { IsListed self.old.keys.keys param }
         requires answer { IsListed self.old.keys.keys answer }
         ensures stays { Lengthens self.old.keys.keys self.new.keys.keys }
@@ -66,10 +70,14 @@ impl<'t> Types<'t> {
         let number = self.number(fun_key(effect, &param, &answer))?;
         let param = self.arena.try_alloc(param)?;
         let answer = self.arena.try_alloc(answer)?;
-        Ok(Shared::Fun(number, effect, param, answer))
+        Ok(SharedType::Fun(number, effect, param, answer))
     }
 
-    pub fn pair(&mut self, first: Shared<'t>, second: Shared<'t>) -> Result<Shared<'t>, NoMemory>
+    pub fn pair(
+        &mut self,
+        first: SharedType<'t>,
+        second: SharedType<'t>,
+    ) -> Result<SharedType<'t>, NoMemory>
         requires first { IsListed self.old.keys.keys first }
         requires second { IsListed self.old.keys.keys second }
         ensures stays { Lengthens self.old.keys.keys self.new.keys.keys }
@@ -79,19 +87,19 @@ impl<'t> Types<'t> {
         let number = self.number(pair_key(&first, &second))?;
         let first = self.arena.try_alloc(first)?;
         let second = self.arena.try_alloc(second)?;
-        Ok(Shared::Pair(number, first, second))
+        Ok(SharedType::Pair(number, first, second))
     }
 
     /// Makes the type that the text writes, in time by its size.
-    pub fn written(&mut self, ty: &Ty) -> Result<Shared<'t>, NoMemory>
+    pub fn written(&mut self, ty: &Ty) -> Result<SharedType<'t>, NoMemory>
         ensures stays { Lengthens self.old.keys.keys self.new.keys.keys }
         ensures ty { IfOk result (λ t. shared_type t ≡ typ_of ty.now) }
         ensures listed { IfOk result (λ t. IsListed self.new.keys.keys t) }
     {
         match ty {
-            Ty::Unit => Ok(Shared::Unit),
-            Ty::Bool => Ok(Shared::Bool),
-            Ty::Int => Ok(Shared::Int),
+            Ty::Unit => Ok(SharedType::Unit),
+            Ty::Bool => Ok(SharedType::Bool),
+            Ty::Int => Ok(SharedType::Int),
             Ty::Ref(sort, content) => {
                 let content = self.written(content)?;
                 self.reference(*sort, content)
@@ -110,7 +118,7 @@ impl<'t> Types<'t> {
     }
 
     /// Returns whether two types of the table are the same, by their numbers.
-    pub fn same(&self, a: &Shared<'t>, b: &Shared<'t>) -> bool
+    pub fn same(&self, a: &SharedType<'t>, b: &SharedType<'t>) -> bool
         requires a { IsListed self.now.keys.keys a.now }
         requires b { IsListed self.now.keys.keys b.now }
         ensures { result ≡ same_type (shared_type a.now) (shared_type b.now) }

@@ -9,7 +9,7 @@ use Rattle.ame_lex.specs.Bytes.{Text, max_text}
 use Rattle.ame_lex.specs.Reading.{tokens_of}
 use Rattle.ame_lex.specs.Tokens.{spelled}
 use Rattle.ame_term.specs.Shown.{TypeFault, wrong_effect, wrong_sort, no_reference}
-use Rattle.ame_why.specs.declared.parts.Parts.{Parts}
+use Rattle.ame_why.specs.declared.parts.FormProgress.{FormProgress}
 use Rattle.ame_why.specs.declared.binders.Binder.{Binder}
 use Rattle.ame_why.specs.Open.{open_before, tokens_or_none}
 use Rattle.ame_why.specs.Placed.{placed_within}
@@ -29,10 +29,10 @@ depth_after depth Kind.Close = depth - 1
 depth_after depth _ = depth
 
 -- one more token of a form: if none of its parts is open, it begins the next one
-abbrev pub parts_after : Parts → Token → Parts
+abbrev pub parts_after : FormProgress → Token → FormProgress
 parts_after parts token = record { begun = if parts.depth == 0 then parts.begun + 1 else parts.begun; depth = depth_after parts.depth token.kind }
 
-abbrev pub no_parts : Parts
+abbrev pub no_parts : FormProgress
 no_parts = record { begun = 0; depth = 0 }
 
 -- in which part a place is of the form that opens there, whose word is part 0

@@ -15,17 +15,17 @@ abbrev pub steps_place : List ℕ → ℕ
 steps_place line = word_place line 3
 
 -- the place in a line that a reason speaks of
-abbrev pub IsPlaceOf : Reason → List ℕ → ℕ → Type 0
-IsPlaceOf reason.NoMember row place = place ≡ member_place row
-IsPlaceOf reason.Inside row place = place ≡ 0
-IsPlaceOf reason.Outside row place = place ≡ 0
-IsPlaceOf reason.NoSteps row place = place ≡ steps_place row
-IsPlaceOf (reason.Stops k want) row place = place ≡ steps_place row
-IsPlaceOf reason.Answered row place = IsLastWord row (codes "=") place
-IsPlaceOf (reason.Unanswered k) row place = place ≡ length row
-IsPlaceOf (reason.Missing k) row place = place ≡ length row
-IsPlaceOf (reason.Taken k l) row place = IsLastWord row (decimal l.0) place
-IsPlaceOf (reason.Unused k l) row place = IsLastWord row (decimal l.0) place
+abbrev pub IsPlaceOfReason : Reason → List ℕ → ℕ → Type 0
+IsPlaceOfReason reason.NoMember row place = place ≡ member_place row
+IsPlaceOfReason reason.Inside row place = place ≡ 0
+IsPlaceOfReason reason.Outside row place = place ≡ 0
+IsPlaceOfReason reason.NoSteps row place = place ≡ steps_place row
+IsPlaceOfReason (reason.Stops k want) row place = place ≡ steps_place row
+IsPlaceOfReason reason.Answered row place = IsLastWord row (codes "=") place
+IsPlaceOfReason (reason.Unanswered k) row place = place ≡ length row
+IsPlaceOfReason (reason.Missing k) row place = place ≡ length row
+IsPlaceOfReason (reason.Taken k l) row place = IsLastWord row (decimal l.0) place
+IsPlaceOfReason (reason.Unused k l) row place = IsLastWord row (decimal l.0) place
 
 -- after how many steps it is so
 abbrev pub steps_told : Reason → Option ℕ
@@ -84,5 +84,5 @@ entry_message row why = after_words row (steps_told why) ++ reason_words why ++ 
 -- The page shows the place in this line that the reason speaks of, and says it.
 pub record ExplainsEntry (input : List ℕ) (line : ℕ) (why : Reason) (page : List ℕ) : Type 0 where
   pub place : ℕ
-  pub there : IsPlaceOf why (line_from input (line_place input line)) place
+  pub there : IsPlaceOfReason why (line_from input (line_place input line)) place
   pub shown : page ≡ placed_within input (line_place input line + place) ++ entry_message (line_from input (line_place input line)) why

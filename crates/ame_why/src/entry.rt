@@ -31,7 +31,7 @@ pub fn explain_entry(
 
 /// Returns the place in a line that a reason speaks of.
 fn place_in(row: &[u8], why: &Reason) -> usize
-    ensures there { spec.IsPlaceOf why.now row.now result }
+    ensures there { spec.IsPlaceOfReason why.now row.now result }
     ensures within { result ≤ length row.now }
 {
     match why {

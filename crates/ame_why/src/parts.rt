@@ -10,7 +10,7 @@ use ame_lex::{Kind, Token};
 
 /// The progress through a form: how many of its parts have begun, its word among them, and how many parentheses are open in the last one.
 #[derive(Clone, Copy)]
-struct Parts {
+struct FormProgress {
     begun: usize,
     depth: usize,
 }
@@ -54,7 +54,7 @@ pub(crate) fn part_number(tokens: &[Token], form: u32, place: u32) -> usize
     ensures { result ≡ spec.part_at form place tokens.now }
 {
     let inside = tokens_up_to(tokens_behind(tokens, form), place);
-    let mut parts = Parts { begun: 0, depth: 0 };
+    let mut parts = FormProgress { begun: 0, depth: 0 };
     for token in inside {
         parts = parts_after(parts, token);
     }
@@ -62,12 +62,12 @@ pub(crate) fn part_number(tokens: &[Token], form: u32, place: u32) -> usize
 }
 
 /// Returns what was gone through with one more token.
-fn parts_after(parts: Parts, token: &Token) -> Parts
+fn parts_after(parts: FormProgress, token: &Token) -> FormProgress
     requires begun { parts.begun < 2 ^ 63 }
     requires depth { parts.depth < 2 ^ 63 }
     ensures { result ≡ spec.parts_after parts token.now }
 {
-    Parts {
+    FormProgress {
         begun: if parts.depth == 0 {
             parts.begun + 1
         } else {

@@ -1,6 +1,6 @@
 //! The events of a run, for a viewer of traces.
 
-use ame_app::{Left, Mades};
+use ame_app::{Mades, RunResult};
 use ame_drawing::{moments_of, shown_picks, shown_seats, timeline_of};
 use ame_journal::Entry;
 use ame_picture::{course_events_of, events_page_of};
@@ -28,7 +28,7 @@ pub fn events_text(alloc: Global, mades: &Mades, entries: &[Entry]) -> Result<Ve
 /// Returns the events of another run: a track a fragment.
 pub fn course_events_text(
     alloc: Global,
-    left: &Left,
+    left: &RunResult,
     entries: &[Entry],
 ) -> Result<Vec<u8>, NoMemory> {
     let moments = moments_of(alloc, entries, left.tried())?;

@@ -5,7 +5,7 @@ ghost use Rattle.ame_lex.specs.Bytes.{max_text};
 
 use crate::origin::Origin;
 use crate::views::entries_of;
-use ame_app::{Own, Report, StandardDevice, Status, TextFault};
+use ame_app::{Report, ReportPart, StandardDevice, Status, TextFault};
 use ame_journal::EntryKind;
 use ame_lex::LexFault;
 use ame_parse::ParseFault;
@@ -84,7 +84,9 @@ fn append_reason<K>(
         }
         (Status::Types(fault), _) => explain_types(alloc, &report.text, fault),
         (Status::BadJournal(line), _) => explain_line(alloc, input, u64::from(*line)),
-        (Status::Invalid(entry), Own::Unmade(why)) => explain_entry(alloc, input, *entry, why),
+        (Status::Invalid(entry), ReportPart::Unmade(why)) => explain_entry(
+            alloc, input, *entry, why,
+        ),
         (Status::ReadFault, _) => unread(alloc, origin),
         (Status::Blocked(_), _) => blocked(alloc, report),
         (Status::Spent | Status::Tall(_), _) => halted(alloc, report),

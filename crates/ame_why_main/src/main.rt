@@ -1,26 +1,26 @@
 //! The verdict of `ame` on a program, and its reasons; or a view of its run.
 #![tactic(auto)]
 
-mod asked;
 mod course;
 mod events;
 mod explain;
 mod given;
 mod help;
-mod kept;
+mod kept_source;
 mod late;
 mod origin;
 mod picture;
 mod run;
+mod view_request;
 mod views;
 mod weak;
 
-use crate::asked::{asked_of, calls_of, file_of};
 use crate::given::Unopened;
 use crate::help::told_alone;
-use crate::kept::Kept;
+use crate::kept_source::KeptSource;
 use crate::origin::Origin;
 use crate::run::{show, write};
+use crate::view_request::{asked_of, calls_of, file_of};
 use ame_app::{exit_with, process_words};
 use ame_io::StdSource;
 use std::fs;
@@ -42,18 +42,18 @@ where
     let asked = asked_of(&mut words);
     match file_of(&mut words) {
         None => {
-            let source = Kept::new(rt.alloc(), StdSource::new(rt.reader()));
+            let source = KeptSource::new(rt.alloc(), StdSource::new(rt.reader()));
             let origin = Origin::standard();
             show(rt, words, source, asked, origin, io::writer(rt))
         }
         Some(name) => match fs::open(rt, name.as_str()) {
             Ok(file) => {
-                let source = Kept::new(rt.alloc(), StdSource::new(file));
+                let source = KeptSource::new(rt.alloc(), StdSource::new(file));
                 let origin = Origin::file(name.as_str());
                 show(rt, words, source, asked, origin, io::writer(rt))
             }
             Err(error) => {
-                let source = Kept::new(rt.alloc(), Unopened::new());
+                let source = KeptSource::new(rt.alloc(), Unopened::new());
                 let fault = format!(in rt.alloc(); "{error}");
                 let origin = Origin::unreadable(name.as_str(), &fault);
                 show(rt, words, source, asked, origin, io::writer(rt))

@@ -3,11 +3,11 @@
 ghost use Rattle.std.specs.Prelude.{◌≤◌, vec_len};
 ghost use Rattle.ame_lex.specs.Bytes.{max_text};
 
-use crate::asked::{Asked, View};
 use crate::explain::{explain, place_of};
-use crate::kept::Kept;
+use crate::kept_source::KeptSource;
 use crate::late::Late;
 use crate::origin::Origin;
+use crate::view_request::{View, ViewRequest};
 use crate::views::page_of;
 use ame_app::{Report, StandardDevice, run_process};
 use ame_io::{Sink, Source, StdSink, StdSource, WriteFault, read_all, write_all};
@@ -25,8 +25,8 @@ use std::thread::Threads;
 pub fn show<R, S, W>(
     rt: &R,
     words: Vec<String>,
-    source: Kept<S>,
-    asked: Asked,
+    source: KeptSource<S>,
+    asked: ViewRequest,
     origin: Origin<'_>,
     writer: W,
 ) -> u8
@@ -62,7 +62,7 @@ where
 fn show_run<R, S, W>(
     rt: &R,
     words: Vec<String>,
-    source: Kept<S>,
+    source: KeptSource<S>,
     origin: Origin<'_>,
     writer: W,
 ) -> u8

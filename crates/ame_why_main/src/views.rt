@@ -3,12 +3,12 @@
 ghost use Rattle.std.specs.Prelude.{◌≤◌, length, vec_len};
 ghost use Rattle.ame_lex.specs.Bytes.{max_text};
 
-use crate::asked::View;
 use crate::course::course_text;
 use crate::events::{course_events_text, events_text};
 use crate::picture::picture_text;
+use crate::view_request::View;
 use crate::weak::order_text;
-use ame_app::{Extra, Left, Ran, Report, StandardDevice};
+use ame_app::{Extra, Ran, Report, RunResult, StandardDevice};
 use ame_check::Halt;
 use ame_engine::Stop;
 use ame_journal::Entry;
@@ -47,17 +47,19 @@ pub fn page_of<K>(
                 alloc,
             ));
             match &run.left {
-                Left::Engine(_, Extra::Picked(mades)) => {
+                RunResult::Engine(_, Extra::Picked(mades)) => {
                     picture_text(alloc, report, mades, &entries, &shown, title)
                 }
-                Left::Engine(_, _) | Left::Weak(_) => {
+                RunResult::Engine(_, _) | RunResult::Weak(_) => {
                     course_text(alloc, report, run, &entries, &shown, title)
                 }
             }
         }
         View::Events => match &run.left {
-            Left::Engine(_, Extra::Picked(mades)) => events_text(alloc, mades, &entries),
-            Left::Engine(_, _) | Left::Weak(_) => course_events_text(alloc, &run.left, &entries),
+            RunResult::Engine(_, Extra::Picked(mades)) => events_text(alloc, mades, &entries),
+            RunResult::Engine(_, _) | RunResult::Weak(_) => course_events_text(
+                alloc, &run.left, &entries,
+            ),
         },
         View::Why | View::Journal => journal_text(alloc, &entries, &report.text),
     }
@@ -86,9 +88,9 @@ fn counts_text<K>(
         return Ok(Vec::new(alloc));
     };
     match &run.left {
-        Left::Weak(weak) if matches!(weak.stop, Stop::NoMemory) => Ok(Vec::new(alloc)),
-        Left::Weak(weak) => weak_counts_of(alloc, weak.turns, entries, &shown),
-        Left::Engine(ended, _) => counts_of(alloc, ended, &shown),
+        RunResult::Weak(weak) if matches!(weak.stop, Stop::NoMemory) => Ok(Vec::new(alloc)),
+        RunResult::Weak(weak) => weak_counts_of(alloc, weak.turns, entries, &shown),
+        RunResult::Engine(ended, _) => counts_of(alloc, ended, &shown),
     }
 }
 
@@ -129,10 +131,10 @@ pub fn program_of(alloc: Global, text: &[u8]) -> Result<Program, NoMemory>
 }
 
 /// Returns the schedule of a run, the line `program` and the text; if the run has no schedule, why.
-fn schedule_text(alloc: Global, left: &Left, text: &[u8]) -> Result<Vec<u8>, NoMemory> {
+fn schedule_text(alloc: Global, left: &RunResult, text: &[u8]) -> Result<Vec<u8>, NoMemory> {
     match left {
-        Left::Engine(_, Extra::Picked(mades)) => mades.schedule_text(alloc, text),
-        Left::Engine(_, _) | Left::Weak(_) => Ok(Vec::from_slice(alloc, NO_SCHEDULE)?),
+        RunResult::Engine(_, Extra::Picked(mades)) => mades.schedule_text(alloc, text),
+        RunResult::Engine(_, _) | RunResult::Weak(_) => Ok(Vec::from_slice(alloc, NO_SCHEDULE)?),
     }
 }
 
@@ -147,8 +149,8 @@ fn trace_text<K>(
     requires small { vec_len report.now.text ≤ max_text }
 {
     let mut page = match &run.left {
-        Left::Weak(weak) => order_text(alloc, &report.text, weak)?,
-        Left::Engine(_, _) => Vec::new(alloc),
+        RunResult::Weak(weak) => order_text(alloc, &report.text, weak)?,
+        RunResult::Engine(_, _) => Vec::new(alloc),
     };
     let shown = shown_by(alloc, report, run, entries)?.unwrap_or(ReplayedRun::empty(alloc));
     let left = &run.left;

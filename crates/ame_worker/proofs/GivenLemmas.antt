@@ -22,7 +22,7 @@ use Rattle.ame_worker.specs.Led.{HasLed, HasHadTurn}
 use Rattle.ame_worker.specs.Leads.{RestsAtStop}
 use Rattle.ame_worker.specs.Rows.{Kept, SeatRow, nothing_kept, row_of}
 use Rattle.ame_worker.specs.Shared.{OpenedView, keeping, IsShared}
-use Rattle.ame_worker.specs.Turns.{TurnView, Turns, AreOfSeat, maker, member_of_turn}
+use Rattle.ame_worker.specs.Turns.{TurnView, AreTurnsBetween, AreOfSeat, maker, member_of_turn}
 use Rattle.ame_worker.specs.Workers.{IsSeated, IsReadyToTurn, IsThrough}
 use Rattle.ame_worker.proofs.HandLemmas.{HasPlayed, some-is, rows-there, in-order, hand-fits, shared-on, its-turns}
 use Rattle.ame_worker.proofs.TurnLemmas.{turns-split, slot-stays}
@@ -183,7 +183,7 @@ module _ {C V M : Type 0} (meaning : Meaning C V M) {S : Type 0} (shown_of : S �
         pub has-led : HasLed meaning code limits.slice before after old new led
         has-led =
             let split = turns-split meaning seated.opened.first (shown_of taken) before.seen finds.others
-            (subst (λ (ts : List (TurnView C V M)). Turns meaning seated.opened.first ts (shown_of taken)) (was.recorded ∙ finds.seen) was.led) in
+            (subst (λ (ts : List (TurnView C V M)). AreTurnsBetween meaning seated.opened.first ts (shown_of taken)) (was.recorded ∙ finds.seen) was.led) in
             record {
               keeps = both-keep;
               free = gave.free;

@@ -27,7 +27,7 @@ use Rattle.ame_worker.specs.Rows.{Kept, SeatRow, nothing_kept, kept_at, row_of, 
 use Rattle.ame_worker.specs.Shared.{OpenedView, opening_of, keeping, IsShared}
 use Rattle.ame_worker.specs.Slots.{Slot, SlotsStay, slot_at}
 use Rattle.ame_worker.proofs.StayLemmas.{map-set}
-use Rattle.ame_worker.specs.Turns.{TurnView, Turns, AreOfSeat}
+use Rattle.ame_worker.specs.Turns.{TurnView, AreTurnsBetween, AreOfSeat}
 use Rattle.ame_worker.proofs.TurnLemmas.{turns-append, turns-stop, others-stay, of-seat}
 use Rattle.ame_machine.specs.Meaning.{Meaning}
 
@@ -84,7 +84,7 @@ module _ {C V M : Type 0} (meaning : Meaning C V M) where
   pub record HasPlayed (code : C) (seat : ℕ) (old : Work M) (taken : ShellView C V M) (places : List (Kept M)) (turns : List (TurnView C V M))
       (given : ShellView C V M) (kept : List (Kept M)) (now : List (TurnView C V M)) (new : Work M) (led : List (TurnView C V M)) : Type 0 where
     pub joined : now ≡ turns ++ led
-    pub follows : Turns meaning taken led given
+    pub follows : AreTurnsBetween meaning taken led given
     pub each : AreOfSeat meaning code taken.core.limits.slice seat old led new
     pub leaves : LeavesInOrder meaning code seat taken given new
     pub keeping_it : kept ≡ set places seat (keeping given.core new)

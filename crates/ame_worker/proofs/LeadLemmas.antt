@@ -6,8 +6,8 @@ use Rattle.ame_shell.specs.declared.work.Work.{Work}
 use Rattle.ame_shell.specs.Ready.{IsPrepared}
 use Rattle.ame_shell.specs.Shell.{ShellView}
 use Rattle.ame_shell.specs.Turned.{MayTurn, LeavesInOrder}
-use Rattle.ame_worker.specs.Leads.{commits, rests, is_heavy, hands_over, LeadsOn, HasLedOn, RestsAtStop}
-use Rattle.ame_worker.specs.Turns.{TurnView, IsTurn, Turns, AreOfSeat}
+use Rattle.ame_worker.specs.Leads.{commits, rests, is_heavy, hands_over, LeadsUntilHandover, HasLedOn, RestsAtStop}
+use Rattle.ame_worker.specs.Turns.{TurnView, IsTurn, AreTurnsBetween, AreOfSeat}
 use Rattle.ame_worker.proofs.TurnLemmas.{turns-append, turns-once, of-seat-more}
 
 tests-alike : (a b c d x : Bool) → (a || ((b && c) && d)) ≡ x → (a || (b && c && d)) ≡ x
@@ -40,7 +40,7 @@ module _ {C V M : Type 0} (meaning : Meaning C V M) where
 
     -- and after the next one it does
     goes-until : (are_more : Bool) (ts : List (TurnView C V M)) (more : Bool) (t : TurnView C V M) → GoesOn code seats are_more ts more
-        → hands_over meaning code seats more t ≡ true → LeadsOn meaning code seats are_more (ts ++ t ∷ [])
+        → hands_over meaning code seats more t ≡ true → LeadsUntilHandover meaning code seats are_more (ts ++ t ∷ [])
     goes-until are_more [] more t is over = subst (λ (b : Bool). hands_over meaning code seats b t ≡ true) is over
     goes-until are_more (u ∷ []) more t h over = (h.0, goes-until (are_more || commits u.outcome) [] more t h.1 over)
     goes-until are_more (u ∷ v ∷ ts) more t h over = (h.0, goes-until (are_more || commits u.outcome) (v ∷ ts) more t h.1 over)
@@ -50,7 +50,7 @@ module _ {C V M : Type 0} (meaning : Meaning C V M) where
       (new : ShellView C V M) (now : List (TurnView C V M)) (left : Work M) (more : Bool) : Type 0 where
     pub led : List (TurnView C V M)
     pub joined : now ≡ turns ++ led
-    pub follows : Turns meaning old led new
+    pub follows : AreTurnsBetween meaning old led new
     pub each : AreOfSeat meaning code old.core.limits.slice seat hand led left
     pub leaves : LeavesInOrder meaning code seat old new left
     pub goes : GoesOn code old.core.limits.seats are_more led more
@@ -76,10 +76,10 @@ module _ {C V M : Type 0} (meaning : Meaning C V M) where
       joined : now ≡ turns ++ all
       joined = joins ∙ ap (λ ts. ts ++ t ∷ []) leads.joined ∙ append_assoc turns leads.led (t ∷ [])
 
-      follows : Turns meaning old all t.new
+      follows : AreTurnsBetween meaning old all t.new
       follows =
           turns-append meaning old mid t.new leads.led (t ∷ []) leads.follows
-          (subst (λ (s : ShellView C V M). Turns meaning s (t ∷ []) t.new) from (turns-once meaning t is))
+          (subst (λ (s : ShellView C V M). AreTurnsBetween meaning s (t ∷ []) t.new) from (turns-once meaning t is))
 
       each : AreOfSeat meaning code old.core.limits.slice seat hand all left
       each = of-seat-more meaning code old.core.limits.slice seat leads.led hand work left t leads.each own ready leaves.may.fits

@@ -9,7 +9,7 @@ use Rattle.ame_protocol.specs.declared.types.Task.{Task}
 use Rattle.ame_protocol.specs.declared.stop.Stop.{Stop}
 use Rattle.ame_protocol.specs.Engine.Parts.{Parts, task_at}
 use Rattle.ame_protocol.specs.Engine.Events.{started}
-use Rattle.ame_protocol.specs.Event.State.{State, started_state}
+use Rattle.ame_protocol.specs.Event.EngineState.{EngineState, started_state}
 use Rattle.ame_protocol.proofs.Engine.ShownMemoryLemmas.{row-shown}
 use Rattle.ame_engine.specs.Core.{Core}
 use Rattle.ame_engine.specs.Makes.{state_of}
@@ -122,10 +122,10 @@ module _ {C V M : Type 0} (meaning : Meaning C V M) where
   -- if an engine was opened from a base, whose lines were sent then
   module _ (core : Core C V M) (ends : Ends) (resumed : HasResumed meaning core.limits core.base core) where
     going : core.stop ≡ None
-    going = ap (λ (s : State). s.stop) resumed.state
+    going = ap (λ (s : EngineState). s.stop) resumed.state
 
     unused-resumed : AreUnused (parts_of meaning core)
-    unused-resumed = subst AreUnused (sym (ap (λ (s : State). s.parts) resumed.state)) (record { tasks = refl; rows = refl; entries = refl })
+    unused-resumed = subst AreUnused (sym (ap (λ (s : EngineState). s.parts) resumed.state)) (record { tasks = refl; rows = refl; entries = refl })
 
     abbrev unsent : ShellView C V M
     unsent = record { core = core; sent = 0; ends = ends }

@@ -20,7 +20,7 @@ use Rattle.ame_rows.specs.LettingGo.{undone_last}
 use Rattle.ame_rows.proofs.LookupLemmas.{row_set_else}
 use Rattle.ame_protocol.specs.Row.Waiting.{read_places}
 use Rattle.ame_protocol.specs.declared.types.Attempt.{Attempt}
-use Rattle.ame_protocol.specs.declared.types.Reason.{Reason}
+use Rattle.ame_protocol.specs.declared.types.UndoReason.{UndoReason}
 use Rattle.ame_protocol.specs.declared.types.Task.{Task}
 use Rattle.ame_protocol.specs.Engine.Parts.{Parts, task_at, member_of, term_at}
 use Rattle.ame_protocol.specs.Engine.Simulates.{Simulates}
@@ -117,11 +117,11 @@ module _ (parts : Parts) (seat : ℕ) where
       task-stays parts (has_checked seat steps attempt parts) seat (Task.Running (checked_attempt steps attempt parts)) refl refl (λ other apart i has. refl)
 
   pub back-stays : (attempt : Attempt) → SlotsStay seat parts (has_turned_back seat attempt parts)
-  back-stays attempt = task-stays parts (has_turned_back seat attempt parts) seat (Task.Undoing attempt Reason.RolledBack) refl refl (λ other apart i has. refl)
+  back-stays attempt = task-stays parts (has_turned_back seat attempt parts) seat (Task.Undoing attempt UndoReason.RolledBack) refl refl (λ other apart i has. refl)
 
   pub noted-stays : (attempt : Attempt) (steps : ℕ) (p : LocalState) → SlotsStay seat parts (has_noted seat attempt steps p parts)
   noted-stays attempt steps p =
-      task-stays parts (has_noted seat attempt steps p parts) seat (Task.Undoing (record attempt { logged = true }) Reason.Noted) refl refl
+      task-stays parts (has_noted seat attempt steps p parts) seat (Task.Undoing (record attempt { logged = true }) UndoReason.Noted) refl refl
       (λ other apart i has. term-noted attempt.tried.number (read_places (row_at parts.memory.rows seat).reads) i parts.pool)
 
   pub cut-stays : (number steps : ℕ) (p : LocalState) (task : Task) → SlotsStay seat parts (has_been_cut seat number steps p task parts)
@@ -132,7 +132,7 @@ module _ (parts : Parts) (seat : ℕ) where
 
   pub refused-stays : (number : ℕ) → SlotsStay seat parts (has_been_refused seat number parts)
   refused-stays number =
-      task-stays parts (has_been_refused seat number parts) seat Task.Idle refl refl (λ other apart i has. term-home Reason.Stopped number i parts.pool)
+      task-stays parts (has_been_refused seat number parts) seat Task.Idle refl refl (λ other apart i has. term-home UndoReason.Stopped number i parts.pool)
 
   -- Undos: one counts a turn while no stop is kept
 
@@ -143,12 +143,12 @@ module _ (parts : Parts) (seat : ℕ) where
       by true = stays
       by false = stays
 
-  pub undone-stays : (attempt : Attempt) (reason : Reason) → SlotsStay seat parts (has_undone seat attempt reason parts)
+  pub undone-stays : (attempt : Attempt) (reason : UndoReason) → SlotsStay seat parts (has_undone seat attempt reason parts)
   undone-stays attempt reason =
       let mid = with_task seat (Task.Undoing attempt reason) (with_memory (undone_last seat parts.memory) parts) in
       turn-stays mid (both-stay parts mid seat (Task.Undoing attempt reason) _ refl refl (λ other apart i has. refl))
 
-  pub gone-stays : (attempt : Attempt) (reason : Reason) → SlotsStay seat parts (has_gone_home seat attempt reason parts)
+  pub gone-stays : (attempt : Attempt) (reason : UndoReason) → SlotsStay seat parts (has_gone_home seat attempt reason parts)
   gone-stays attempt reason =
       let mid = with_task seat Task.Idle (record parts {
         memory = undone_last seat parts.memory;

@@ -17,13 +17,13 @@ use Rattle.ame_shell.specs.Outcomes.{StopsBy}
 use Rattle.ame_shell.specs.Shell.{ShellView}
 use Rattle.ame_shell.specs.Turned.{HasTurned}
 use Rattle.ame_worker.specs.declared.gate.Point.{Point}
-use Rattle.ame_worker.specs.declared.worker.Turned.{Turned}
+use Rattle.ame_worker.specs.declared.worker.TurnAnswer.{TurnAnswer}
 use Rattle.ame_worker.specs.Leads.{RestsAtStop}
 use Rattle.ame_worker.specs.Points.{point_of}
 use Rattle.ame_machine.specs.MachineView.{MachineView}
 use Rattle.ame_machine.specs.Meaning.{Meaning}
 
-pub did-is : (p q : Point) → Turned.Did p ≡ Turned.Did q → p ≡ q
+pub did-is : (p q : Point) → TurnAnswer.Did p ≡ TurnAnswer.Did q → p ≡ q
 did-is p q e = cc
 
 pub point-stopped : (outcome : Outcome) (member : Option ℕ) → point_of outcome member ≡ Point.Stopped → outcome ≡ Outcome.Stopped

@@ -8,26 +8,26 @@ use Rattle.ame_shell.specs.Ready.{IsPrepared}
 use Rattle.ame_shell.specs.Shell.{ShellView}
 use Rattle.ame_shell.specs.Work.{stage_at, Fits}
 use Rattle.ame_worker.specs.Slots.{Slot, SlotsStay, slot_at}
-use Rattle.ame_worker.specs.Turns.{TurnView, IsTurn, Turns, AreOfSeat}
+use Rattle.ame_worker.specs.Turns.{TurnView, IsTurn, AreTurnsBetween, AreOfSeat}
 use Rattle.ame_worker.proofs.StopLemmas.{turn-stops}
 
 module _ {C V M : Type 0} (meaning : Meaning C V M) where
   -- turns, and then more of them
-  pub turns-append : (first mid last : ShellView C V M) (ts us : List (TurnView C V M)) → Turns meaning first ts mid → Turns meaning mid us last
-      → Turns meaning first (ts ++ us) last
-  turns-append first mid last [] us is more = subst (λ (s : ShellView C V M). Turns meaning s us last) is more
+  pub turns-append : (first mid last : ShellView C V M) (ts us : List (TurnView C V M)) → AreTurnsBetween meaning first ts mid → AreTurnsBetween meaning mid us last
+      → AreTurnsBetween meaning first (ts ++ us) last
+  turns-append first mid last [] us is more = subst (λ (s : ShellView C V M). AreTurnsBetween meaning s us last) is more
   turns-append first mid last (t ∷ ts) us h more = (h.0, h.1, turns-append t.new mid last ts us h.2 more)
 
-  pub turns-split : (first last : ShellView C V M) (ts us : List (TurnView C V M)) → Turns meaning first (ts ++ us) last
-      → (mid : ShellView C V M) × Turns meaning first ts mid × Turns meaning mid us last
+  pub turns-split : (first last : ShellView C V M) (ts us : List (TurnView C V M)) → AreTurnsBetween meaning first (ts ++ us) last
+      → (mid : ShellView C V M) × AreTurnsBetween meaning first ts mid × AreTurnsBetween meaning mid us last
   turns-split first last [] us h = (first, refl, h)
   turns-split first last (t ∷ ts) us h = let rest = turns-split t.new last ts us h.2 in (rest.0, (h.0, h.1, rest.1), rest.2)
 
-  pub turns-once : (t : TurnView C V M) → IsTurn meaning t → Turns meaning t.old (t ∷ []) t.new
+  pub turns-once : (t : TurnView C V M) → IsTurn meaning t → AreTurnsBetween meaning t.old (t ∷ []) t.new
   turns-once t is = (refl, is, refl)
 
   -- a kept stop stays
-  pub turns-stop : (first last : ShellView C V M) (ts : List (TurnView C V M)) → Turns meaning first ts last → IsSome first.core.stop → IsSome last.core.stop
+  pub turns-stop : (first last : ShellView C V M) (ts : List (TurnView C V M)) → AreTurnsBetween meaning first ts last → IsSome first.core.stop → IsSome last.core.stop
   turns-stop first last [] is kept = subst (λ (s : ShellView C V M). IsSome s.core.stop) (sym is) kept
   turns-stop first last (t ∷ ts) h kept =
       turns-stop t.new last ts h.2
@@ -38,7 +38,7 @@ module _ {C V M : Type 0} (meaning : Meaning C V M) where
   slot s seat = slot_at (parts_of meaning s.core) seat
 
   -- what an engine keeps for a seat stays in turns of others
-  pub slot-stays : (seat : ℕ) (first last : ShellView C V M) (ts : List (TurnView C V M)) → Turns meaning first ts last → All (λ t. t.seat ≢ seat) ts
+  pub slot-stays : (seat : ℕ) (first last : ShellView C V M) (ts : List (TurnView C V M)) → AreTurnsBetween meaning first ts last → All (λ t. t.seat ≢ seat) ts
       → slot last seat ≡ slot first seat
   slot-stays seat first last [] is apart = ap (λ (s : ShellView C V M). slot s seat) is
   slot-stays seat first last (t ∷ ts) h apart =
@@ -48,7 +48,7 @@ module _ {C V M : Type 0} (meaning : Meaning C V M) where
 
   module _ (code : C) (slice seat : ℕ) where
     -- turns of one seat leave what it keeps for the others
-    pub others-stay : (first last : ShellView C V M) (ts : List (TurnView C V M)) → Turns meaning first ts last → All (λ t. t.seat ≡ seat) ts
+    pub others-stay : (first last : ShellView C V M) (ts : List (TurnView C V M)) → AreTurnsBetween meaning first ts last → All (λ t. t.seat ≡ seat) ts
         → SlotsStay seat (parts_of meaning first.core) (parts_of meaning last.core)
     others-stay first last [] is own = λ other apart. ap (λ (s : ShellView C V M). slot s other) is
     others-stay first last (t ∷ ts) h own = λ other apart.

@@ -43,11 +43,11 @@ module _ {C V M : Type 0} (meaning : Meaning C V M) where
   hands_over code seats are_more t = rests t.outcome || (nat_lt 1 seats && are_more && is_heavy code t.hand)
 
   -- A seat leads on until it hands over: after the last of these turns, and after none before.
-  abbrev pub LeadsOn : C → ℕ → Bool → List (TurnView C V M) → Type 0
-  LeadsOn code seats are_more [] = ⊥
-  LeadsOn code seats are_more (t ∷ []) = hands_over code seats are_more t ≡ true
-  LeadsOn code seats are_more (t ∷ more ∷ ts) =
-      (hands_over code seats are_more t ≡ false) × LeadsOn code seats (are_more || commits t.outcome) (more ∷ ts)
+  abbrev pub LeadsUntilHandover : C → ℕ → Bool → List (TurnView C V M) → Type 0
+  LeadsUntilHandover code seats are_more [] = ⊥
+  LeadsUntilHandover code seats are_more (t ∷ []) = hands_over code seats are_more t ≡ true
+  LeadsUntilHandover code seats are_more (t ∷ more ∷ ts) =
+      (hands_over code seats are_more t ≡ false) × LeadsUntilHandover code seats (are_more || commits t.outcome) (more ∷ ts)
 
   -- A seat had turns on a shell until it handed over. They joined the turns of the shell, which the seat left to others, and this is
   -- whether the last one met a kept stop with nothing at work.
@@ -55,5 +55,5 @@ module _ {C V M : Type 0} (meaning : Meaning C V M) where
       (new : ShellView C V M) (now : List (TurnView C V M)) (left : Work M) (is_over : Bool) : Type 0 where
     pub led : List (TurnView C V M)
     pub had : HasHadTurns meaning code seat hand old turns new now left led
-    pub until : LeadsOn code old.core.limits.seats are_more led
+    pub until : LeadsUntilHandover code old.core.limits.seats are_more led
     pub over : is_over ≡ true → RestsAtStop new.core seat

@@ -12,9 +12,9 @@ use Rattle.ame_worker.specs.Slots.{slot_at}
 use Rattle.ame_protocol.specs.declared.types.Limits.{Limits}
 use Rattle.ame_baton.specs.Seats.{IsElsewhere}
 use Rattle.ame_worker.specs.declared.gate.Point.{Point}
-use Rattle.ame_worker.specs.Leads.{LeadsOn}
+use Rattle.ame_worker.specs.Leads.{LeadsUntilHandover}
 use Rattle.ame_worker.specs.Points.{point_of}
-use Rattle.ame_worker.specs.Turns.{TurnView, member_of_turn, Turns, AreOfSeat}
+use Rattle.ame_worker.specs.Turns.{TurnView, member_of_turn, AreTurnsBetween, AreOfSeat}
 
 module _ {C V M : Type 0} (meaning : Meaning C V M) where
   -- A seat took the turn, had these turns, and gave the turn. The turns that it had seen lead to the shell as it left it, those that other
@@ -33,10 +33,10 @@ module _ {C V M : Type 0} (meaning : Meaning C V M) where
     pub left : ShellView C V M
     pub taken : ShellView C V M
     pub given : ShellView C V M
-    pub before_it : Turns meaning opened.first before.seen left
-    pub meanwhile : Turns meaning left others taken
+    pub before_it : AreTurnsBetween meaning opened.first before.seen left
+    pub meanwhile : AreTurnsBetween meaning left others taken
     pub found : slot_at (parts_of meaning taken.core) before.number ≡ slot_at (parts_of meaning left.core) before.number
-    pub its : Turns meaning taken led given
+    pub its : AreTurnsBetween meaning taken led given
     pub each : AreOfSeat meaning code slice before.number old led new
     pub row : after.row ≡ row_of given.core before.number (keeping given.core new)
 
@@ -51,5 +51,5 @@ module _ {C V M : Type 0} (meaning : Meaning C V M) where
   abbrev pub HasLedOrNot : C → Limits → Bool → Knows (OpenedView C V M) (SeatRow M) (TurnView C V M)
       → Knows (OpenedView C V M) (SeatRow M) (TurnView C V M) → Work M → Work M → Type 0
   HasLedOrNot code limits are_more before after old new =
-      ((led : List (TurnView C V M)) × HasLed code limits.slice before after old new led × LeadsOn meaning code limits.seats are_more led)
+      ((led : List (TurnView C V M)) × HasLed code limits.slice before after old new led × LeadsUntilHandover meaning code limits.seats are_more led)
       ⊎ (IsElsewhere before × (after ≡ before) × (new ≡ old))

@@ -5,7 +5,7 @@ use Rattle.ame_shell.specs.declared.work.Work.{Work}
 use Rattle.ame_shell.specs.Work.{Fits}
 use Rattle.ame_shell.specs.Shell.{ShellView, Opening, IsShell}
 use Rattle.ame_worker.specs.Rows.{Kept, SeatRow, kept_at, rows_in}
-use Rattle.ame_worker.specs.Turns.{TurnView, Turns}
+use Rattle.ame_worker.specs.Turns.{TurnView, AreTurnsBetween}
 use Rattle.ame_machine.specs.Meaning.{Meaning}
 
 -- A shell as it was made, before anything was sent, and as it was when workers came to share it.
@@ -38,5 +38,5 @@ module _ {C V M : Type 0} (meaning : Meaning C V M) where
     pub fits : (seat : ℕ) → seat < shared.core.limits.seats → Fits meaning shared.core seat (kept_at places seat).hand
     pub marks : (seat : ℕ) → (kept_at places seat).marked ≡ true → IsSome shared.core.stop
     pub rows : rows_in shared.core places ≡ all
-    pub led : Turns meaning opened.first turns shared
+    pub led : AreTurnsBetween meaning opened.first turns shared
     pub recorded : turns ≡ told

@@ -48,9 +48,9 @@ module _ {C V M : Type 0} (meaning : Meaning C V M) where
     pub joined : now ≡ turns ++ t ∷ []
 
   -- turns lead from one shell to another, each from the shell that the one before left
-  abbrev pub Turns : ShellView C V M → List (TurnView C V M) → ShellView C V M → Type 0
-  Turns first [] last = last ≡ first
-  Turns first (t ∷ ts) last = (t.old ≡ first) × IsTurn t × Turns t.new ts last
+  abbrev pub AreTurnsBetween : ShellView C V M → List (TurnView C V M) → ShellView C V M → Type 0
+  AreTurnsBetween first [] last = last ≡ first
+  AreTurnsBetween first (t ∷ ts) last = (t.old ≡ first) × IsTurn t × AreTurnsBetween t.new ts last
 
   -- Turns of one seat: each with the work in flight that the one before left, but for steps that its machine made alone.
   abbrev pub AreOfSeat : C → ℕ → ℕ → Work M → List (TurnView C V M) → Work M → Type 0
@@ -63,6 +63,6 @@ module _ {C V M : Type 0} (meaning : Meaning C V M) where
   pub record HasHadTurns (code : C) (seat : ℕ) (old : Work M) (taken : ShellView C V M) (turns : List (TurnView C V M)) (given : ShellView C V M)
       (now : List (TurnView C V M)) (new : Work M) (led : List (TurnView C V M)) : Type 0 where
     pub joined : now ≡ turns ++ led
-    pub follows : Turns taken led given
+    pub follows : AreTurnsBetween taken led given
     pub each : AreOfSeat code taken.core.limits.slice seat old led new
     pub leaves : LeavesInOrder meaning code seat taken given new

@@ -11,6 +11,6 @@ mod turns;
 mod worker;
 
 pub use gate::{Gate, NoGate, Point};
-pub use shared::{Opened, Place, SeatRow, Shared};
+pub use shared::{Opened, SeatPlace, SeatRow, Shared};
 pub use turns::TurnRecord;
-pub use worker::{Turned, Worker};
+pub use worker::{TurnAnswer, Worker};

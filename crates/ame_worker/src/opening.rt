@@ -9,7 +9,7 @@ ghost use Rattle.ame_engine.specs.Whole.{AreLimits};
 ghost use Rattle.ame_worker.specs.Opened.{IsAround, IsOpenedBy};
 ghost use Rattle.ame_worker.specs.Rows.{nothing_kept};
 
-use crate::shared::{Place, Shared};
+use crate::shared::{SeatPlace, Shared};
 use ame_device::Device;
 use ame_engine::Engine;
 use ame_io::Sink;
@@ -22,12 +22,12 @@ use std::snapshot::Snapshot;
 use std::sync::Arc;
 
 /// Makes this number of places, for seats that did nothing.
-fn empty_places<M>(alloc: Global, seats: u32) -> Result<Vec<Place<M>>, AllocError>
+fn empty_places<M>(alloc: Global, seats: u32) -> Result<Vec<SeatPlace<M>>, AllocError>
     ensures { IfOk result (λ places. places.items ≡ replicate seats nothing_kept) }
 {
     let mut places = Vec::new(alloc);
     for _ in 0..seats {
-        places.push(Place::new(&Work::Idle, false))?;
+        places.push(SeatPlace::new(&Work::Idle, false))?;
     }
     Ok(places)
 }

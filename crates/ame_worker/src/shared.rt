@@ -18,12 +18,12 @@ use std::snapshot::Snapshot;
 
 /// The place of a seat that gives the turn: its work in flight, as contracts see it, and whether a stop was kept then.
 #[derive(Drop)]
-pub struct Place<M> {
+pub struct SeatPlace<M> {
     hand: Snapshot<Work<M>>,
     marked: bool,
 }
 
-impl<M> Model for Place<M> {
+impl<M> Model for SeatPlace<M> {
     ghost use Rattle.ame_worker.specs.Rows.{Kept};
 
     ghost Value = { Kept M };
@@ -31,13 +31,13 @@ impl<M> Model for Place<M> {
     ghost view = { λ p. record { hand = p.hand.value; marked = p.marked } };
 }
 
-impl<M> Place<M> {
+impl<M> SeatPlace<M> {
     /// Keeps this work in flight.
-    pub(crate) fn new(hand: &Work<M>, marked: bool) -> Place<M>
+    pub(crate) fn new(hand: &Work<M>, marked: bool) -> SeatPlace<M>
         ensures hand { result.hand ≡ hand.now }
         ensures marked { result.marked ≡ marked }
     {
-        Place {
+        SeatPlace {
             hand: Snapshot::of(hand),
             marked,
         }
@@ -52,7 +52,7 @@ where
     M::Code: Drop,
 {
     pub shell: Box<Shell<M, K, D>>,
-    pub places: Vec<Place<M>>,
+    pub places: Vec<SeatPlace<M>>,
     pub turns: Trace<TurnRecord<M, K, D>>,
     pub made: Snapshot<Shell<M, K, D>>,
 }
@@ -100,7 +100,7 @@ where
         ensures rest { self.new ≡ record self.old { places = self.new.places } }
     {
         let marked = self.shell.engine.stopped().is_some();
-        self.places[seat as usize] = Place::new(hand, marked);
+        self.places[seat as usize] = SeatPlace::new(hand, marked);
     }
 }
 

@@ -55,7 +55,7 @@ where
 
 /// The answer to a worker's call for a turn.
 #[derive(Clone, Copy, PartialEq, Eq, Debug)]
-pub enum Turned {
+pub enum TurnAnswer {
     /// It had a turn, and made the event that the point names.
     Did(Point),
     /// Another seat had the turn. Nothing of the shared shell changed.
@@ -112,17 +112,17 @@ where
         alloc: Global,
         baton: &Baton<Shared<M, K, D>>,
         gate: &G,
-    ) -> Turned
+    ) -> TurnAnswer
         requires of { IsSeatOf baton.now self.old.seat }
         requires ready { IsReadyToTurn M.meaning (arc_value self.old.code) self.old.limits (knows self.old.seat) self.old.work }
         ensures of { IsSeatOf baton.now self.new.seat }
         ensures ready { IsReadyToTurn M.meaning (arc_value self.new.code) self.new.limits (knows self.new.seat) self.new.work }
         ensures keeps { KeepsSeat (knows self.old.seat) (knows self.new.seat) }
-        ensures busy { (elsewhere : Elsewhere) → result ≡ Turned.Busy elsewhere → IsElsewhere (knows self.old.seat) }
-        ensures same { (elsewhere : Elsewhere) → result ≡ Turned.Busy elsewhere → knows self.new.seat ≡ knows self.old.seat }
-        ensures did { (point : Point) → result ≡ Turned.Did point → HasHadTurn M.meaning (arc_value self.old.code) self.old.limits.slice
+        ensures busy { (elsewhere : Elsewhere) → result ≡ TurnAnswer.Busy elsewhere → IsElsewhere (knows self.old.seat) }
+        ensures same { (elsewhere : Elsewhere) → result ≡ TurnAnswer.Busy elsewhere → knows self.new.seat ≡ knows self.old.seat }
+        ensures did { (point : Point) → result ≡ TurnAnswer.Did point → HasHadTurn M.meaning (arc_value self.old.code) self.old.limits.slice
             (knows self.old.seat) (knows self.new.seat) self.old.work self.new.work point }
-        ensures through { result ≡ Turned.Did Point.Stopped → IsThrough (knows self.new.seat) }
+        ensures through { result ≡ TurnAnswer.Did Point.Stopped → IsThrough (knows self.new.seat) }
         ensures code { self.new.code ≡ self.old.code }
         ensures limits { self.new.limits ≡ self.old.limits }
     {
@@ -131,14 +131,14 @@ where
         let _ = prepare(alloc, code, self.limits.slice, &mut self.work);
         let mut shared = match baton.try_take(rt, &mut self.seat) {
             Ok(shared) => shared,
-            Err(elsewhere) => return Turned::Busy(elsewhere),
+            Err(elsewhere) => return TurnAnswer::Busy(elsewhere),
         };
         let number = self.seat.number();
         let turn = shared.play(code, number, &mut self.work);
         self.hand_over(rt, baton, shared);
         let point = point_of(turn);
         gate.pass(number, point);
-        Turned::Did(point)
+        TurnAnswer::Did(point)
     }
 
     /// Has turns while no other worker has any, and holds the turn from the first to the last: until a stop is kept and its seat has
@@ -187,12 +187,12 @@ where
         let (mut backoff, mut waits) = (Backoff::new(), 0_u32);
         for _ in rt.forever() {
             match self.turn(rt, alloc, baton, gate) {
-                Turned::Did(Point::Stopped) => return,
-                Turned::Did(Point::Idle) | Turned::Busy(_) => {
+                TurnAnswer::Did(Point::Stopped) => return,
+                TurnAnswer::Did(Point::Idle) | TurnAnswer::Busy(_) => {
                     pause(rt, &backoff, waits);
                     waits = waits.saturating_add(1);
                 }
-                Turned::Did(_) => (backoff, waits) = (Backoff::new(), 0),
+                TurnAnswer::Did(_) => (backoff, waits) = (Backoff::new(), 0),
             }
         }
         unreachable!()

@@ -10,7 +10,7 @@ use Rattle.ame_check.specs.declared.reason.Reason.{Reason}
 use Rattle.ame_check.specs.Input.{HasProgramLine, IsSplit}
 use Rattle.ame_check.specs.Judge.{IsLong, LeadsTo, IsInvalid}
 use Rattle.ame_app.specs.declared.parts.Front.{Front}
-use Rattle.ame_app.specs.declared.parts.Own.{Own}
+use Rattle.ame_app.specs.declared.parts.ReportPart.{ReportPart}
 use Rattle.ame_app.specs.declared.status.Status.{Status}
 
 -- Input
@@ -51,28 +51,28 @@ entries_before (Front.Journal journal) = journal.entries
 entries_before _ = []
 
 -- n is the number of entries, which lead to a state, and the lines of its output are written before the verdict line
-pub record IsValidJournal (program : Tree) (entries : List Entry) (ahead : List ℕ) (own : Own) (n : ℕ) : Type 0 where
+pub record IsValidJournal (program : Tree) (entries : List Entry) (ahead : List ℕ) (own : ReportPart) (n : ℕ) : Type 0 where
   pub output : List ℤ
   pub leads : LeadsTo program entries output
   pub count : n ≡ length entries
   pub ahead_is : ahead ≡ lines output
-  pub own_is : own ≡ Own.Nothing
+  pub own_is : own ≡ ReportPart.Nothing
 
 -- the n-th entry is the first that can't be made, for the reason that is reported
-pub record IsUnmade (program : Tree) (entries : List Entry) (ahead : List ℕ) (own : Own) (n : ℕ) : Type 0 where
+pub record IsUnmade (program : Tree) (entries : List Entry) (ahead : List ℕ) (own : ReportPart) (n : ℕ) : Type 0 where
   pub why : Reason
   pub invalid : IsInvalid program entries n why
   pub ahead_is : ahead ≡ []
-  pub own_is : own ≡ Own.Unmade why
+  pub own_is : own ≡ ReportPart.Unmade why
 
 -- with the n-th entry the steps and entries are too many to be judged
-pub record IsTooMuch (entries : List Entry) (ahead : List ℕ) (own : Own) (n : ℕ) : Type 0 where
+pub record IsTooMuch (entries : List Entry) (ahead : List ℕ) (own : ReportPart) (n : ℕ) : Type 0 where
   pub long : IsLong entries n
   pub ahead_is : ahead ≡ []
-  pub own_is : own ≡ Own.Nothing
+  pub own_is : own ≡ ReportPart.Nothing
 
 -- the status of a journal of a program, a row a status
-abbrev pub TellsOfJournal : Tree → List Entry → List ℕ → Own → Status → Type 0
+abbrev pub TellsOfJournal : Tree → List Entry → List ℕ → ReportPart → Status → Type 0
 TellsOfJournal program entries ahead own (Status.Valid n) = IsValidJournal program entries ahead own n
 TellsOfJournal program entries ahead own (Status.Invalid n) = IsUnmade program entries ahead own n
 TellsOfJournal program entries ahead own (Status.LongJournal n) = IsTooMuch entries ahead own n

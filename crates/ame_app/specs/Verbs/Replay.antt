@@ -6,7 +6,7 @@ use Rattle.ame_protocol.specs.declared.types.Limits.{Limits}
 use Rattle.ame_shell.specs.Ends.{Ends}
 use Rattle.ame_sim.specs.Listed.{picked_as_listed}
 use Rattle.ame_sim.specs.Schedule.{IsScheduled}
-use Rattle.ame_app.specs.declared.left.Left.{Left}
+use Rattle.ame_app.specs.declared.run_result.RunResult.{RunResult}
 use Rattle.ame_app.specs.declared.parts.Front.{Front}
 use Rattle.ame_app.specs.declared.status.Status.{Status}
 use Rattle.ame_app.specs.Verbs.Sim.{IsPicked}
@@ -23,7 +23,7 @@ pub record HasNoSchedule (bytes : List ℕ) (told : Status) : Type 0 where
   pub none : (picks text : List ℕ) → ¬ IsScheduled bytes picks text
 
 -- the picks are those of the schedule, as far as they could be made
-pub record IsPickedAsListed (front : Front) (code : FlatCode) (limits : Limits) (before : Ends) (left : Left) : Type 0 where
+pub record IsPickedAsListed (front : Front) (code : FlatCode) (limits : Limits) (before : Ends) (left : RunResult) : Type 0 where
   pub picks : List ℕ
   pub front_is : front ≡ Front.Schedule picks
   pub picked : IsPicked (picked_as_listed picks) code limits before left

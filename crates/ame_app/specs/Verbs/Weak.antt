@@ -26,8 +26,8 @@ use Rattle.ame_runner.specs.declared.stop.WeakStop.{WeakStop}
 use Rattle.ame_cli.specs.Items.{default_of}
 use Rattle.ame_cli.specs.declared.item.Item.TheVariants.{Slice}
 use Rattle.ame_cli.specs.declared.command.Options.{Options}
-use Rattle.ame_app.specs.declared.left.Left.{Left}
-use Rattle.ame_app.specs.declared.left.WeakEnd.{WeakEnd}
+use Rattle.ame_app.specs.declared.run_result.RunResult.{RunResult}
+use Rattle.ame_app.specs.declared.run_result.WeakEnd.{WeakEnd}
 
 -- What is run
 
@@ -84,9 +84,9 @@ pub record IsDrawnAs (program : Tree) (seed limit : ℕ) (weak : WeakEnd) : Type
 
 -- The run was a weak one, drawn by the numbers of the seed, unless it was out of memory. Its journal is that of its labels and tries, and has at
 -- least a third of its turns as steps and entries.
-pub record IsWeakened (program : Tree) (seed limit : ℕ) (left : Left) : Type 0 where
+pub record IsWeakened (program : Tree) (seed limit : ℕ) (left : RunResult) : Type 0 where
   pub weak : WeakEnd
-  pub left_is : left ≡ Left.Weak weak
+  pub left_is : left ≡ RunResult.Weak weak
   pub journal : IsWeakJournal program weak.labels.items weak.tries.items weak.journal.entries
   pub drawn : weak.stop ≢ Stop.NoMemory → IsDrawnAs program seed limit weak
   pub paid : weak.stop ≢ Stop.NoMemory → weak.turns ≤ 3 * total_steps weak.journal.entries

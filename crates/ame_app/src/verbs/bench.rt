@@ -8,12 +8,12 @@ ghost use Rattle.ame_app.specs.declared.status.Status.{Status as Told};
 
 use crate::parts::Front;
 use crate::status::Status;
-use crate::verbs::Taken;
+use crate::verbs::CommandInput;
 use ame_gen::generate;
 use std::alloc::Global;
 
 /// Generates the text of a seed and a size. No source is read.
-pub(crate) fn take(alloc: Global, seed: u32, size: u32) -> Result<Taken, Status>
+pub(crate) fn take(alloc: Global, seed: u32, size: u32) -> Result<CommandInput, Status>
     requires seed { IsInBounds seeds seed }
     requires size { IsInBounds sizes size }
     ensures takes { IfOk result (λ taken. TakesGenerated seed size taken.front taken.text.items) }
@@ -21,7 +21,7 @@ pub(crate) fn take(alloc: Global, seed: u32, size: u32) -> Result<Taken, Status>
     ensures memory { IfErr result (λ told. told ≡ Told.NoMemory) }
 {
     match generate(alloc, seed, size) {
-        Ok(text) => Ok(Taken {
+        Ok(text) => Ok(CommandInput {
             front: Front::Nothing,
             text,
         }),

@@ -8,9 +8,9 @@ ghost use Rattle.ame_app.specs.Verbs.Check.{TakesCertificate, HasNoCertificate, 
 ghost use Rattle.ame_app.specs.declared.parts.Front.{Front as Before};
 ghost use Rattle.ame_app.specs.declared.status.Status.{Status as Told};
 
-use crate::parts::{Front, Own};
+use crate::parts::{Front, ReportPart};
 use crate::status::Status;
-use crate::verbs::{Settled, Taken, told_alone};
+use crate::verbs::{CommandInput, Settled, told_alone};
 use ame_check::{Judged, judge, split_input};
 use ame_code::Code;
 use ame_eval::Fragment;
@@ -48,7 +48,7 @@ pub fn read_certificate(alloc: Global, bytes: &[u8]) -> Result<Certified<'_>, St
 }
 
 /// Splits the bytes in the same way, and copies the text.
-pub(crate) fn take(alloc: Global, bytes: &[u8]) -> Result<Taken, Status>
+pub(crate) fn take(alloc: Global, bytes: &[u8]) -> Result<CommandInput, Status>
     requires most { length bytes.now ≤ READ_LIMIT }
     ensures takes { IfOk result (λ taken. TakesCertificate bytes.now taken.front taken.text.items) }
     ensures small { IfOk result (λ taken. vec_len taken.text ≤ length bytes.now) }
@@ -56,7 +56,7 @@ pub(crate) fn take(alloc: Global, bytes: &[u8]) -> Result<Taken, Status>
 {
     match read_certificate(alloc, bytes) {
         Ok(Certified { journal, text }) => match Vec::from_slice(alloc, text) {
-            Ok(text) => Ok(Taken {
+            Ok(text) => Ok(CommandInput {
                 front: Front::Journal(journal),
                 text,
             }),
@@ -97,14 +97,18 @@ pub fn judge_journal(
         Judged::Valid(output) => Ok(Settled {
             told: Status::Valid(entries.len() as u64),
             ahead: lines_of(alloc, &output)?,
-            own: Own::Nothing,
+            own: ReportPart::Nothing,
         }),
         Judged::Invalid(place, why) => Ok(told_alone(
             alloc,
             Status::Invalid(place),
-            Own::Unmade(why),
+            ReportPart::Unmade(why),
         )),
-        Judged::Long(place) => Ok(told_alone(alloc, Status::LongJournal(place), Own::Nothing)),
+        Judged::Long(place) => Ok(told_alone(
+            alloc,
+            Status::LongJournal(place),
+            ReportPart::Nothing,
+        )),
         Judged::Tall(_) => Err(NoMemory),
     }
 }

@@ -5,14 +5,14 @@ ghost use Rattle.std.specs.Arc.{arc_value};
 ghost use Rattle.ame_cli.specs.Ranges.{AreInRange};
 ghost use Rattle.ame_app.specs.Headline.{limits_of};
 ghost use Rattle.ame_app.specs.Jobs.{IsOverWith};
-ghost use Rattle.ame_app.specs.Left.{end_in};
+ghost use Rattle.ame_app.specs.RunResult.{end_in};
 ghost use Rattle.ame_app.specs.Verbs.Replay.{TakesScheduled, HasNoSchedule, IsPickedAsListed};
 ghost use Rattle.ame_app.specs.declared.status.Status.{Status as Told};
 
 use crate::lists::Picks;
 use crate::parts::Front;
 use crate::status::Status;
-use crate::verbs::{Made, Taken, sim};
+use crate::verbs::{CommandInput, FinishedRun, sim};
 use ame_cli::Options;
 use ame_code::Code;
 use ame_device::Device;
@@ -23,14 +23,14 @@ use std::alloc::Global;
 use std::sync::Arc;
 
 /// Splits the bytes into the picks of a schedule and the text after it.
-pub(crate) fn take(alloc: Global, bytes: &[u8]) -> Result<Taken, Status>
+pub(crate) fn take(alloc: Global, bytes: &[u8]) -> Result<CommandInput, Status>
     ensures takes { IfOk result (λ taken. TakesScheduled bytes.now taken.front taken.text.items) }
     ensures small { IfOk result (λ taken. vec_len taken.text ≤ length bytes.now) }
     ensures declines { IfErr result (λ told. HasNoSchedule bytes.now told ⊎ (told ≡ Told.NoMemory)) }
 {
     match read_schedule(alloc, bytes) {
         Ok(scheduled) => match Vec::from_slice(alloc, scheduled.program) {
-            Ok(text) => Ok(Taken {
+            Ok(text) => Ok(CommandInput {
                 front: Front::Schedule(Picks::from_vec(scheduled.picks)),
                 text,
             }),
@@ -48,7 +48,7 @@ pub(crate) fn run<K, D>(
     options: Options,
     front: &Front,
     io: Io<K, D>,
-) -> Result<Made<K, D>, Io<K, D>>
+) -> Result<FinishedRun<K, D>, Io<K, D>>
 where
     K: Sink + Drop,
     D: Device,

@@ -12,16 +12,16 @@ ghost use Rattle.ame_code.specs.FlatCode.{FlatCode};
 ghost use Rattle.ame_engine.specs.Resuming.{AreActs, FailsToResume, IsFar};
 ghost use Rattle.ame_engine.specs.Whole.{AreLimits};
 ghost use Rattle.ame_app.specs.Jobs.{HasJustResumed, IsEngineOn, IsOutlook, IsOverResumed, IsReplayable};
-ghost use Rattle.ame_app.specs.Left.{end_in};
+ghost use Rattle.ame_app.specs.RunResult.{end_in};
 ghost use Rattle.ame_app.specs.Verbs.Check.{entries_before as entries_in};
 ghost use Rattle.ame_app.specs.Verbs.Resume.{TellsResumed};
 
-use crate::left::{Extra, Left};
 use crate::limits::limits_of;
-use crate::parts::{Front, Own};
+use crate::parts::{Front, ReportPart};
+use crate::run_result::{Extra, RunResult};
 use crate::status::Status;
 use crate::verbs::check::entries_before;
-use crate::verbs::{Made, Outlook, told_alone};
+use crate::verbs::{FinishedRun, Outlook, told_alone};
 use ame_check::{Judged, judge};
 use ame_cli::Options;
 use ame_code::Code;
@@ -73,7 +73,7 @@ fn tall(alloc: Global, front: &Front, options: Options, place: u64) -> Result<Ou
         Some(entry) if !entry.kind.is_note() => Ok(Outlook::Told(told_alone(
             alloc,
             Status::TallJournal(acts_among(with) as u64),
-            Own::Nothing,
+            ReportPart::Nothing,
         ))),
         _ => Err(NoMemory),
     }
@@ -117,7 +117,7 @@ fn go_on(
         Err(ResumeFail::Far(place)) => Ok(Outlook::Told(told_alone(
             alloc,
             Status::FarJournal(place),
-            Own::Nothing,
+            ReportPart::Nothing,
         ))),
         Err(ResumeFail::Tall(_) | ResumeFail::NoMemory) => Err(NoMemory),
     }
@@ -138,12 +138,12 @@ pub(crate) fn settle(
         Judged::Invalid(place, why) => Ok(Outlook::Told(told_alone(
             alloc,
             Status::Invalid(place),
-            Own::Unmade(why),
+            ReportPart::Unmade(why),
         ))),
         Judged::Long(place) => Ok(Outlook::Told(told_alone(
             alloc,
             Status::LongJournal(place),
-            Own::Nothing,
+            ReportPart::Nothing,
         ))),
         Judged::Tall(place) => tall(alloc, front, options, place),
     }
@@ -157,7 +157,7 @@ pub(crate) fn run<R, K, D, G>(
     engine: Engine<Fragment>,
     io: Io<K, D>,
     gate: &G,
-) -> Result<Made<K, D>, Io<K, D>>
+) -> Result<FinishedRun<K, D>, Io<K, D>>
 where
     R: Threads + Wait + Sync,
     K: Sink + Send + Drop,
@@ -177,8 +177,8 @@ where
     match resume_by_workers::<Fragment, K, D, G, R>(rt, alloc, code, engine, io, gate) {
         Ok(left) => {
             let resumed = left.ended.base().len() as u64;
-            Ok(Made {
-                left: Left::Engine(left.ended, Extra::Resumed(resumed)),
+            Ok(FinishedRun {
+                left: RunResult::Engine(left.ended, Extra::Resumed(resumed)),
                 ahead: Vec::new(alloc),
                 io: left.io,
             })

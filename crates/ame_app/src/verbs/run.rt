@@ -4,13 +4,13 @@ ghost use Rattle.std.specs.Prelude.{◌≡◌, IfOk, IfErr, length};
 ghost use Rattle.std.specs.Arc.{arc_value};
 ghost use Rattle.ame_cli.specs.Ranges.{AreInRange};
 ghost use Rattle.ame_app.specs.Jobs.{IsOverWith};
-ghost use Rattle.ame_app.specs.Left.{end_in};
+ghost use Rattle.ame_app.specs.RunResult.{end_in};
 ghost use Rattle.ame_app.specs.Verbs.Run.{TakesAll, HasNothing};
 
-use crate::left::{Extra, Left};
 use crate::limits::limits_of;
 use crate::parts::Front;
-use crate::verbs::{Made, Taken};
+use crate::run_result::{Extra, RunResult};
+use crate::verbs::{CommandInput, FinishedRun};
 use ame_cli::Options;
 use ame_code::Code;
 use ame_device::Device;
@@ -24,11 +24,11 @@ use std::sync::{Arc, Wait};
 use std::thread::Threads;
 
 /// Takes all bytes as the text.
-pub(crate) fn take(bytes: Vec<u8>) -> Taken
+pub(crate) fn take(bytes: Vec<u8>) -> CommandInput
     ensures takes { TakesAll bytes.items result.front result.text.items }
     ensures same { result.text ≡ bytes }
 {
-    Taken {
+    CommandInput {
         front: Front::Nothing,
         text: bytes,
     }
@@ -42,7 +42,7 @@ pub(crate) fn run<R, K, D, G>(
     options: Options,
     io: Io<K, D>,
     gate: &G,
-) -> Result<Made<K, D>, Io<K, D>>
+) -> Result<FinishedRun<K, D>, Io<K, D>>
 where
     R: Threads + Wait + Sync,
     K: Sink + Send + Drop,
@@ -59,8 +59,8 @@ where
     };
     let limits = limits_of(options);
     match run_by_workers::<Fragment, K, D, G, R>(rt, alloc, code, limits, io, gate) {
-        Ok(left) => Ok(Made {
-            left: Left::Engine(left.ended, Extra::Nothing),
+        Ok(left) => Ok(FinishedRun {
+            left: RunResult::Engine(left.ended, Extra::Nothing),
             ahead: Vec::new(alloc),
             io: left.io,
         }),

@@ -7,19 +7,19 @@ ghost use Rattle.ame_cli.specs.Ranges.{AreInRange};
 ghost use Rattle.ame_io.specs.Counts.{HasRisen};
 ghost use Rattle.ame_io.specs.Writes.{AppendsFront};
 ghost use Rattle.ame_app.specs.Verbs.Sim.{IsPicked, mades_in, seats_picked, schedule_behind};
-ghost use Rattle.ame_app.specs.declared.left.Left.{Left as Ending};
-ghost use Rattle.ame_app.specs.Left.{end_in};
+ghost use Rattle.ame_app.specs.declared.run_result.RunResult.{RunResult as Ending};
+ghost use Rattle.ame_app.specs.RunResult.{end_in};
 ghost use Rattle.ame_app.specs.Headline.{limits_of};
 ghost use Rattle.ame_app.specs.Jobs.{IsOverWith};
 ghost use Rattle.ame_sim.specs.Picks.{picks_of};
 ghost use Rattle.ame_sim.specs.Questions.{seats_of};
 ghost use Rattle.ame_sim.specs.Schedule.{schedule_line, signs};
 
-use crate::left::{Extra, Left};
 use crate::limits::limits_of;
 use crate::lists::Mades;
+use crate::run_result::{Extra, RunResult};
 use crate::status::Status;
-use crate::verbs::Made;
+use crate::verbs::FinishedRun;
 use ame_cli::Options;
 use ame_code::Code;
 use ame_device::Device;
@@ -41,7 +41,7 @@ pub(crate) fn run<K, D, H>(
     options: Options,
     io: Io<K, D>,
     chooser: &mut H,
-) -> Result<Made<K, D>, Io<K, D>>
+) -> Result<FinishedRun<K, D>, Io<K, D>>
 where
     K: Sink + Drop,
     D: Device,
@@ -59,8 +59,8 @@ where
     match run_by_chooser::<Fragment, K, D, H>(alloc, code, limits, io, chooser) {
         Ok(played) => {
             let Played { left, mades } = played;
-            Ok(Made {
-                left: Left::Engine(left.ended, Extra::Picked(Mades::of_run(mades))),
+            Ok(FinishedRun {
+                left: RunResult::Engine(left.ended, Extra::Picked(Mades::of_run(mades))),
                 ahead: Vec::new(alloc),
                 io: left.io,
             })
@@ -78,20 +78,20 @@ fn has_schedule(told: &Status) -> bool
 }
 
 /// Returns the picks of a run, if it has any.
-fn picks_in(left: &Left) -> &[Picked]
+fn picks_in(left: &RunResult) -> &[Picked]
     ensures value { result.now ≡ picks_of (mades_in left.now) }
     ensures low { All (λ pick. pick.seat < 32) result.now }
 {
     match left {
-        Left::Engine(_, Extra::Picked(mades)) => mades.picks(),
-        Left::Engine(_, Extra::Nothing | Extra::Resumed(_)) | Left::Weak(_) => &[],
+        RunResult::Engine(_, Extra::Picked(mades)) => mades.picks(),
+        RunResult::Engine(_, Extra::Nothing | Extra::Resumed(_)) | RunResult::Weak(_) => &[],
     }
 }
 
 /// Writes the schedule of a run after its verdict line. Takes no memory.
 pub(crate) fn write_behind<K: Sink>(
     sink: &mut K,
-    left: &Left,
+    left: &RunResult,
     told: &Status,
 ) -> Result<(), WriteFault>
     ensures whole { OnOk result (Appends (K.written sink.old) (K.written sink.new) (schedule_behind left.now told.now)) }

@@ -15,9 +15,9 @@ ghost use Rattle.ame_app.specs.Headline.{limits_of};
 ghost use Rattle.ame_app.specs.Jobs.{certificates_told, HasLeft, IsWeakRunMade, LeadsToLeft, LeavesFit, TellsWeakly};
 ghost use Rattle.ame_app.specs.Verbs.Weak.{alone_with, stop_told, IsEndOf};
 
-use crate::left::{Left, WeakEnd};
 use crate::limits::limits_of;
-use crate::verbs::Made;
+use crate::run_result::{RunResult, WeakEnd};
+use crate::verbs::FinishedRun;
 use crate::verbs::resume::acts_of;
 use ame_check::Replay;
 use ame_cli::{Item, Options};
@@ -234,7 +234,7 @@ pub(crate) fn run<K, D>(
     seed: u32,
     turns: u32,
     io: Io<K, D>,
-) -> Made<K, D>
+) -> FinishedRun<K, D>
 where
     K: Sink + Drop,
     D: Device,
@@ -244,8 +244,8 @@ where
     let (sink, mut devices) = io.into_parts();
     let run = weak_run(alloc, code.accepted(), turns, seed, &mut devices);
     let Spoken { weak, lines } = end_or_turns(alloc, code, turns, run);
-    Made {
-        left: Left::Weak(weak),
+    FinishedRun {
+        left: RunResult::Weak(weak),
         ahead: lines,
         io: Io::new(sink, devices),
     }

@@ -8,7 +8,7 @@ ghost use Rattle.ame_baton.specs.Batons.{knows, left_by_each, IsReadySeat, AreRe
 use super::Baton;
 use crate::seats::Seat;
 use crate::state::Rowed;
-use crate::steps::{Keeps, Takes, View};
+use crate::steps::{Pop, Rejoin, View};
 use crossbeam_queue::Pass;
 use std::sync::Wait;
 
@@ -26,7 +26,7 @@ impl<S: Rowed> Baton<S> {
     {
         let mut pass = first.into_pass();
         self.join_all(&mut pass, rest);
-        match self.queue.pop_as::<Takes<S>, R>(rt, &mut pass) {
+        match self.queue.pop_as::<Pop<S>, R>(rt, &mut pass) {
             Some(state) => state,
             None => unreachable!(),
         }
@@ -55,6 +55,6 @@ impl<S: Rowed> Baton<S> {
         ensures kept { let k = view pass.old in
             view pass.new ≡ with_ended k (k.ended ++ left_by (knows seat) ∷ []) }
     {
-        self.queue.absorb::<Keeps<S>>(pass, seat.into_pass());
+        self.queue.absorb::<Rejoin<S>>(pass, seat.into_pass());
     }
 }

@@ -27,7 +27,7 @@ impl<S: Rowed> Baton<S> {
         ensures busy { OnErr result (IsElsewhere (knows seat.old)) }
         ensures same { OnErr result (knows seat.new ≡ knows seat.old) }
     {
-        let taken = self.queue.pop_as::<steps::Takes<S>, R>(rt, &mut seat.pass);
+        let taken = self.queue.pop_as::<steps::Pop<S>, R>(rt, &mut seat.pass);
         taken.ok_or(Elsewhere { tried: () })
     }
 
@@ -58,7 +58,7 @@ impl<S: Rowed> Baton<S> {
     {
         match self
             .queue
-            .push_as::<steps::Gives<S, M>, R>(rt, &mut seat.pass, state)
+            .push_as::<steps::Push<S, M>, R>(rt, &mut seat.pass, state)
         {
             Ok(()) => (),
             Err(_) => unreachable!(),

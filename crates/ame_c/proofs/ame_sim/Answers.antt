@@ -1,7 +1,7 @@
 use Rattle.std.proofs.Common.{subst}
 use Rattle.ame_cli.specs.declared.command.Options.{Options}
 use Rattle.ame_app.specs.declared.alone.Alone.{Alone}
-use Rattle.ame_c.specs.Made.{AnswersRun, TellsMade, texts}
+use Rattle.ame_c.specs.CallResult.{AnswersRun, TellsMade, texts}
 use Rattle.ame_c.specs.Out.{bytes_in}
 use Rattle.ame_c.proofs.ame_sim.Goals as goal
 

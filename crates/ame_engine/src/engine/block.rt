@@ -18,7 +18,7 @@ use super::turn::Setback;
 use crate::answer::Noted;
 use ame_journal::EntryKind;
 use ame_machine::Runner;
-use ame_protocol::{Attempt, Reason, Task};
+use ame_protocol::{Attempt, Task, UndoReason};
 use ame_rows::ReadNote;
 use ame_term::{Loc, NoMemory};
 use std::alloc::Global;
@@ -57,7 +57,7 @@ where
         self.ledger.journal.room()?;
         self.pool.note(number, locs)?;
         self.ledger.journal.push(entry);
-        self.tasks[seat as usize] = Task::Undoing(told(attempt), Reason::Noted);
+        self.tasks[seat as usize] = Task::Undoing(told(attempt), UndoReason::Noted);
         self.turns += 1;
         self.counters.blocks += 1;
         Ok(())

@@ -3,7 +3,7 @@
 ghost use Rattle.std.specs.Prelude.{◌≡◌, IfOk, replicate};
 ghost use Rattle.std.specs.Arc.{arc_value};
 ghost use Rattle.ame_protocol.specs.Engine.Events.{started};
-ghost use Rattle.ame_protocol.specs.Event.State.{started_state};
+ghost use Rattle.ame_protocol.specs.Event.EngineState.{started_state};
 ghost use Rattle.ame_engine.specs.Makes.{state_of};
 ghost use Rattle.ame_engine.specs.Seen.{parts_of};
 ghost use Rattle.ame_engine.specs.Whole.{AreLimits};

@@ -9,7 +9,7 @@ ghost use Rattle.ame_engine.specs.Turning.{reverse_of, counted_at, HasMet};
 
 use super::Engine;
 use ame_machine::Runner;
-use ame_protocol::{Attempt, Counters, Reason, Task};
+use ame_protocol::{Attempt, Counters, Task, UndoReason};
 use ame_term::Loc;
 
 /// Says why a seat turns back.
@@ -61,7 +61,7 @@ where
         ensures { (held : Attempt) → task_at self.old.tasks seat ≡ Task.Running held
             → Makes M.meaning (Event.TurnBack seat held (reverse_of setback)) self.old self.new }
     {
-        self.tasks[seat as usize] = Task::Undoing(attempt, Reason::RolledBack);
+        self.tasks[seat as usize] = Task::Undoing(attempt, UndoReason::RolledBack);
         self.turns += 1;
         self.counters = count(setback, self.counters);
     }

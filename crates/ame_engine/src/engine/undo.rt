@@ -15,7 +15,7 @@ use super::Engine;
 use crate::answer::Undone;
 use ame_machine::Runner;
 use ame_pool::Pool;
-use ame_protocol::{Attempt, Counters, Reason, Task, Tried};
+use ame_protocol::{Attempt, Counters, Task, Tried, UndoReason};
 
 /// Returns the attempt of a seat at work.
 pub(super) fn attempt_at(task: Task) -> Attempt
@@ -29,12 +29,12 @@ pub(super) fn attempt_at(task: Task) -> Attempt
 }
 
 /// Returns why the work of a seat is undone. If the seat runs, a stop is kept.
-fn why_undone(task: Task) -> Reason
+fn why_undone(task: Task) -> UndoReason
     ensures { result ≡ reason_to_undo task }
 {
     match task {
         Task::Undoing(_, reason) => reason,
-        Task::Idle | Task::Running(_) | Task::Free(_) => Reason::Stopped,
+        Task::Idle | Task::Running(_) | Task::Free(_) => UndoReason::Stopped,
     }
 }
 
@@ -61,14 +61,14 @@ fn undo_counters(stopped: bool, counters: Counters) -> Counters
 }
 
 /// Brings a member home, by the reason for which its row was undone.
-fn bring_home<M: Drop>(pool: &mut Pool<M>, number: u64, reason: Reason)
+fn bring_home<M: Drop>(pool: &mut Pool<M>, number: u64, reason: UndoReason)
     requires { IsAt (is_busy_for reason) number pool.old }
     ensures { pool.new ≡ home_for reason number pool.old }
 {
     match reason {
-        Reason::RolledBack => pool.home(number, true),
-        Reason::Noted => pool.park(number),
-        Reason::Stopped => pool.home(number, false),
+        UndoReason::RolledBack => pool.home(number, true),
+        UndoReason::Noted => pool.park(number),
+        UndoReason::Stopped => pool.home(number, false),
     }
 }
 

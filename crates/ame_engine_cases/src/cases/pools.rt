@@ -6,7 +6,7 @@ ghost use Rattle.ame_pool.specs.Calls.{IsAt, is_running as is_running_member, is
 
 use Oldest::{Empty, Member, Parked, Wait};
 use Step::*;
-use ame_pool::{Oldest, Pool, Standing};
+use ame_pool::{MemberStanding, Oldest, Pool};
 use ame_term::Loc;
 use std::alloc::Global;
 use std::process::Abort;
@@ -48,7 +48,7 @@ fn is_ready(pool: &Pool<u64>, number: u64) -> bool
     ensures { IsTrue result → IsAt is_ready_member number pool.now }
 {
     match pool.member(number) {
-        Some(member) => matches!(&member.standing, Standing::Ready),
+        Some(member) => matches!(&member.standing, MemberStanding::Ready),
         None => false,
     }
 }
@@ -57,7 +57,7 @@ fn is_busy(pool: &Pool<u64>, number: u64) -> bool
     ensures { IsTrue result → IsAt is_busy_member number pool.now }
 {
     match pool.member(number) {
-        Some(member) => matches!(&member.standing, Standing::Busy(_)),
+        Some(member) => matches!(&member.standing, MemberStanding::Busy(_)),
         None => false,
     }
 }
@@ -66,7 +66,7 @@ fn is_running(pool: &Pool<u64>, number: u64) -> bool
     ensures { IsTrue result → IsAt is_running_member number pool.now }
 {
     match pool.member(number) {
-        Some(member) => matches!(&member.standing, Standing::Busy(None)),
+        Some(member) => matches!(&member.standing, MemberStanding::Busy(None)),
         None => false,
     }
 }
@@ -75,7 +75,7 @@ fn is_noted(pool: &Pool<u64>, number: u64) -> bool
     ensures { IsTrue result → IsAt is_noted_member number pool.now }
 {
     match pool.member(number) {
-        Some(member) => matches!(&member.standing, Standing::Busy(Some(_))),
+        Some(member) => matches!(&member.standing, MemberStanding::Busy(Some(_))),
         None => false,
     }
 }

@@ -10,7 +10,7 @@ use Rattle.ame_pool.specs.Standings.{max_rollbacks}
 use Rattle.ame_pool.specs.Calls.{at_home}
 use Rattle.ame_pool.proofs.MemberLemmas.{find_number, all_found, length_altered}
 use Rattle.ame_protocol.specs.declared.types.Attempt.{Attempt}
-use Rattle.ame_protocol.specs.declared.types.Reason.{Reason}
+use Rattle.ame_protocol.specs.declared.types.UndoReason.{UndoReason}
 use Rattle.ame_protocol.specs.declared.types.Task.{Task}
 use Rattle.ame_protocol.specs.Engine.Parts.{Parts, task_at, member_of}
 use Rattle.ame_protocol.specs.Engine.Simulates.{Simulates}
@@ -55,7 +55,7 @@ record AreHome (parts : Parts) (n : ℕ) : Type 0 where
   pub count : length members ≡ length parts.pool.members
   pub within : All (λ m. m.rollbacks ≤ max_rollbacks) members
   pub sum : rollbacks_in members ≡ rollbacks_in parts.pool.members + over_seats n (λ k. turning_back (task_at parts.tasks k))
-  pub open_still : (k : ℕ) → n ≤ k → (attempt : Attempt) → task_at parts.tasks k ≡ Task.Undoing attempt Reason.RolledBack
+  pub open_still : (k : ℕ) → n ≤ k → (attempt : Attempt) → task_at parts.tasks k ≡ Task.Undoing attempt UndoReason.RolledBack
       → MayTurn (find attempt.tried.number members)
 
 all-altered : (n : ℕ) (f : Member Tree → Member Tree) (P : Member Tree → Type 0) → ((m : Member Tree) → P m → P (f m)) → (ms : List (Member Tree))
@@ -68,12 +68,12 @@ all-altered n f P stays (m ∷ ms) h =
 
 module _ (parts : Parts) (s : Simulates parts) (reasons : (k : ℕ) → HasReason parts (task_at parts.tasks k)) (within : IsWithinRollbacks parts.pool) where
   -- two seats bring home different members
-  apart : (k n : ℕ) (here there : Attempt) → task_at parts.tasks k ≡ Task.Undoing here Reason.RolledBack
-      → task_at parts.tasks n ≡ Task.Undoing there Reason.RolledBack → suc n ≤ k → here.tried.number ≡ there.tried.number → ⊥
+  apart : (k n : ℕ) (here there : Attempt) → task_at parts.tasks k ≡ Task.Undoing here UndoReason.RolledBack
+      → task_at parts.tasks n ≡ Task.Undoing there UndoReason.RolledBack → suc n ≤ k → here.tried.number ≡ there.tried.number → ⊥
   apart k n here there e f above same =
       let one : k ≡ n = s.apart k n here.tried.number (ap member_of e) (ap member_of f ∙ ap Some (sym same)) in omega arith
 
-  one-home : (n : ℕ) → AreHome parts n → (attempt : Attempt) → task_at parts.tasks n ≡ Task.Undoing attempt Reason.RolledBack → AreHome parts (suc n)
+  one-home : (n : ℕ) → AreHome parts n → (attempt : Attempt) → task_at parts.tasks n ≡ Task.Undoing attempt UndoReason.RolledBack → AreHome parts (suc n)
   one-home n h attempt task =
       let number = attempt.tried.number in
       let rolls = altered-rolls number (at_home true) (λ _. refl) h.members in
@@ -96,12 +96,12 @@ module _ (parts : Parts) (s : Simulates parts) (reasons : (k : ℕ) → HasReaso
   }
 
   next-home : (n : ℕ) → AreHome parts n → (task : Task) → task_at parts.tasks n ≡ task → AreHome parts (suc n)
-  next-home n h (Task.Undoing attempt Reason.RolledBack) e = one-home n h attempt e
+  next-home n h (Task.Undoing attempt UndoReason.RolledBack) e = one-home n h attempt e
   next-home n h Task.Idle e = none-home n h (ap turning_back e)
   next-home n h (Task.Running attempt) e = none-home n h (ap turning_back e)
   next-home n h (Task.Free attempt) e = none-home n h (ap turning_back e)
-  next-home n h (Task.Undoing attempt Reason.Noted) e = none-home n h (ap turning_back e)
-  next-home n h (Task.Undoing attempt Reason.Stopped) e = none-home n h (ap turning_back e)
+  next-home n h (Task.Undoing attempt UndoReason.Noted) e = none-home n h (ap turning_back e)
+  next-home n h (Task.Undoing attempt UndoReason.Stopped) e = none-home n h (ap turning_back e)
 
   home-all : (n : ℕ) → AreHome parts n
   home-all zero = record {

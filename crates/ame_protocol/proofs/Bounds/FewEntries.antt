@@ -18,7 +18,7 @@ use Rattle.ame_rows.specs.MemoryView.{MemoryView, row_at}
 use Rattle.ame_protocol.specs.Row.Waiting.{read_places}
 use Rattle.ame_protocol.proofs.Row.CellLemmas.{which}
 use Rattle.ame_protocol.specs.declared.types.Attempt.{Attempt}
-use Rattle.ame_protocol.specs.declared.types.Reason.{Reason}
+use Rattle.ame_protocol.specs.declared.types.UndoReason.{UndoReason}
 use Rattle.ame_protocol.specs.declared.types.Task.{Task}
 use Rattle.ame_protocol.specs.Engine.Parts.{Parts, task_at, attempt_of, member_of}
 use Rattle.ame_protocol.specs.Engine.Simulates.{Simulates}
@@ -167,7 +167,7 @@ module _ (refused : ℕ) (parts : Parts) (s : Simulates parts) (a : HasFewRollba
   noted-few task =
       let locs = read_places (row_at parts.memory.rows seat).reads in
       let pool = noted number locs parts.pool in
-      entry-few refused parts s a few seat attempt (Task.Running attempt) (Task.Undoing (record attempt { logged = true }) Reason.Noted) task refl
+      entry-few refused parts s a few seat attempt (Task.Running attempt) (Task.Undoing (record attempt { logged = true }) UndoReason.Noted) task refl
       (stuck_entry seat number n p) refl pool (altered-rolls number (noted_on locs) (λ _. refl) parts.pool.members)
       (none-rolled number (noted_on locs) (λ _. refl) (λ _. refl) parts.pool.members) refl refl (λ i e. e) (omega arith) refl parts.memory parts.output
       parts.next (parts.turns + 1)

@@ -11,7 +11,7 @@ use Rattle.ame_protocol.proofs.Row.CellLemmas.{which}
 use Rattle.ame_rows.specs.LettingGo.{undone_last}
 use Rattle.ame_protocol.specs.declared.types.Tried.{Tried}
 use Rattle.ame_protocol.specs.declared.types.Attempt.{Attempt}
-use Rattle.ame_protocol.specs.declared.types.Reason.{Reason}
+use Rattle.ame_protocol.specs.declared.types.UndoReason.{UndoReason}
 use Rattle.ame_protocol.specs.declared.types.Task.{Task}
 use Rattle.ame_protocol.specs.Engine.Parts.{Parts, task_at, attempt_of, member_of}
 use Rattle.ame_protocol.specs.Engine.Simulates.{Simulates}
@@ -94,7 +94,7 @@ module _ (refused : ℕ) (parts : Parts) (s : Simulates parts) (a : HasFewRollba
 -- Undos
 
 module _ (refused : ℕ) (parts : Parts) (s : Simulates parts) (a : HasFewRollbacks refused parts) (seat : ℕ) (attempt : Attempt) (was : Task)
-    (had : task_at parts.tasks seat ≡ was) (its : attempt_of was ≡ Some attempt) (reason : Reason) where
+    (had : task_at parts.tasks seat ≡ was) (its : attempt_of was ≡ Some attempt) (reason : UndoReason) where
   pub undone-few : HasReason parts (Task.Undoing attempt reason) → turning_back was ≡ turning_back (Task.Undoing attempt reason) → at_work was ≡ 1
       → member_of was ≡ Some attempt.tried.number → HasFewRollbacks refused (has_undone seat attempt reason parts)
   undone-few why same busy member = by parts.stopped
@@ -135,13 +135,13 @@ module _ (refused : ℕ) (parts : Parts) (s : Simulates parts) (a : HasFewRollba
   has = ap attempt_of had ∙ its
 
   -- of a member that turned back: it is rolled back once more, which pays its try
-  pub rolled-home : HasReason parts (Task.Undoing attempt Reason.RolledBack) → turning_back was ≡ 1 → (turns : ℕ)
-      → HasFewRollbacks refused (gone_parts seat attempt Reason.RolledBack turns parts)
+  pub rolled-home : HasReason parts (Task.Undoing attempt UndoReason.RolledBack) → turning_back was ≡ 1 → (turns : ℕ)
+      → HasFewRollbacks refused (gone_parts seat attempt UndoReason.RolledBack turns parts)
   rolled-home may one turns =
       let n = attempt.tried.number in
       let rolls = altered-rolls n (at_home true) (λ _. refl) parts.pool.members in
       let more = rolled-more n parts.pool.members may in
-      few-more refused refused parts (gone_parts seat attempt Reason.RolledBack turns parts) a seat was Task.Idle (record {
+      few-more refused refused parts (gone_parts seat attempt UndoReason.RolledBack turns parts) a seat was Task.Idle (record {
         within = within parts s seat attempt has;
         limits = refl;
         had = had;
@@ -161,22 +161,22 @@ module _ (refused : ℕ) (parts : Parts) (s : Simulates parts) (a : HasFewRollba
           → told_of (find attempt.tried.number (altered attempt.tried.number (at_home true) parts.pool.members))
           ≡ told_of (find attempt.tried.number parts.pool.members) + 1 → (i ≡ attempt.tried.number) ⊎ ((i ≡ attempt.tried.number) → ⊥)
           → tries_of i (with_try attempt parts.tried) + (8 * entries_of i parts.entries + rollbacks_at i parts.pool)
-          ≤ tries_of i parts.tried + (8 * entries_of i parts.entries + rollbacks_at i (brought_home Reason.RolledBack attempt.tried.number parts.pool))
+          ≤ tries_of i parts.tried + (8 * entries_of i parts.entries + rollbacks_at i (brought_home UndoReason.RolledBack attempt.tried.number parts.pool))
       by i rolls more (inl same) =
           let t = tries-with i attempt parts.tried in let f = try-few i attempt in
           let o : rollbacks_at i parts.pool ≡ told_of (find attempt.tried.number parts.pool.members) = ap (λ (k : ℕ). rollbacks_at k parts.pool) same in
-          let w : rollbacks_at i (brought_home Reason.RolledBack attempt.tried.number parts.pool)
+          let w : rollbacks_at i (brought_home UndoReason.RolledBack attempt.tried.number parts.pool)
           ≡ told_of (find attempt.tried.number (altered attempt.tried.number (at_home true) parts.pool.members)) =
-          ap (λ (k : ℕ). rollbacks_at k (brought_home Reason.RolledBack attempt.tried.number parts.pool)) same in
+          ap (λ (k : ℕ). rollbacks_at k (brought_home UndoReason.RolledBack attempt.tried.number parts.pool)) same in
           omega arith
       by i rolls more (inr apart) =
           let t = tries-with i attempt parts.tried in let f = try-else i attempt apart in let r = rolls.others i apart in omega arith
 
   -- A noted member goes home: its note is the entry of the attempt.
-  pub noted-home : attempt.logged ≡ true → turning_back was ≡ 0 → (turns : ℕ) → HasFewRollbacks refused (gone_parts seat attempt Reason.Noted turns parts)
+  pub noted-home : attempt.logged ≡ true → turning_back was ≡ 0 → (turns : ℕ) → HasFewRollbacks refused (gone_parts seat attempt UndoReason.Noted turns parts)
   noted-home told none turns =
       let rolls = altered-unrolled attempt.tried.number at_rest (λ _. refl) parts.pool.members (λ _. refl) in
-      few-more refused refused parts (gone_parts seat attempt Reason.Noted turns parts) a seat was Task.Idle (record {
+      few-more refused refused parts (gone_parts seat attempt UndoReason.Noted turns parts) a seat was Task.Idle (record {
         within = within parts s seat attempt has;
         limits = refl;
         had = had;
@@ -221,9 +221,9 @@ module _ (refused : ℕ) (parts : Parts) (s : Simulates parts) (a : HasFewRollba
       let o = a.tries.away k i e in omega arith
 
   pub stopped-home : parts.stopped ≡ true → turning_back was ≡ 0 → at_work was ≡ 1 → (turns : ℕ)
-      → HasFewRollbacks refused (gone_parts seat attempt Reason.Stopped turns parts)
+      → HasFewRollbacks refused (gone_parts seat attempt UndoReason.Stopped turns parts)
   stopped-home stopped none busy turns =
-      let new = gone_parts seat attempt Reason.Stopped turns parts in
+      let new = gone_parts seat attempt UndoReason.Stopped turns parts in
       let rolls = altered-unrolled attempt.tried.number (at_home false) (λ _. refl) parts.pool.members (λ _. refl) in
       let others = λ (k : ℕ) (apart : k ≡ seat → ⊥). task_else parts.tasks seat Task.Idle k apart in
       few-step refused refused parts new a seat was Task.Idle (late_with attempt.logged) (record {
@@ -249,7 +249,7 @@ module _ (refused : ℕ) (parts : Parts) (s : Simulates parts) (a : HasFewRollba
 -- by the reason, and by whether a stop is kept
 
 module _ (refused : ℕ) (parts : Parts) (s : Simulates parts) (a : HasFewRollbacks refused parts) (seat : ℕ) (attempt : Attempt) where
-  counted-home : (reason : Reason) → ((turns : ℕ) → HasFewRollbacks refused (gone_parts seat attempt reason turns parts))
+  counted-home : (reason : UndoReason) → ((turns : ℕ) → HasFewRollbacks refused (gone_parts seat attempt reason turns parts))
       → HasFewRollbacks refused (has_gone_home seat attempt reason parts)
   counted-home reason all = by parts.stopped
     where
@@ -257,17 +257,17 @@ module _ (refused : ℕ) (parts : Parts) (s : Simulates parts) (a : HasFewRollba
       by true = all parts.turns
       by false = all (parts.turns + 1)
 
-  pub undoing-home : (reason : Reason) → task_at parts.tasks seat ≡ Task.Undoing attempt reason → HasFewRollbacks refused (has_gone_home seat attempt reason parts)
+  pub undoing-home : (reason : UndoReason) → task_at parts.tasks seat ≡ Task.Undoing attempt reason → HasFewRollbacks refused (has_gone_home seat attempt reason parts)
   undoing-home reason task = counted-home reason (by reason task (subst (HasReason parts) task (a.reasons seat)))
     where
-      by : (reason : Reason) → task_at parts.tasks seat ≡ Task.Undoing attempt reason → HasReason parts (Task.Undoing attempt reason) → (turns : ℕ)
+      by : (reason : UndoReason) → task_at parts.tasks seat ≡ Task.Undoing attempt reason → HasReason parts (Task.Undoing attempt reason) → (turns : ℕ)
           → HasFewRollbacks refused (gone_parts seat attempt reason turns parts)
-      by Reason.RolledBack task why = rolled-home refused parts s a seat attempt (Task.Undoing attempt Reason.RolledBack) task refl why refl
-      by Reason.Noted task why = noted-home refused parts s a seat attempt (Task.Undoing attempt Reason.Noted) task refl why refl
-      by Reason.Stopped task why = stopped-home refused parts s a seat attempt (Task.Undoing attempt Reason.Stopped) task refl why refl refl
+      by UndoReason.RolledBack task why = rolled-home refused parts s a seat attempt (Task.Undoing attempt UndoReason.RolledBack) task refl why refl
+      by UndoReason.Noted task why = noted-home refused parts s a seat attempt (Task.Undoing attempt UndoReason.Noted) task refl why refl
+      by UndoReason.Stopped task why = stopped-home refused parts s a seat attempt (Task.Undoing attempt UndoReason.Stopped) task refl why refl refl
 
-  pub running-home : parts.stopped ≡ true → task_at parts.tasks seat ≡ Task.Running attempt → HasFewRollbacks refused (has_gone_home seat attempt Reason.Stopped parts)
-  running-home stopped task = counted-home Reason.Stopped (stopped-home refused parts s a seat attempt (Task.Running attempt) task refl stopped refl refl)
+  pub running-home : parts.stopped ≡ true → task_at parts.tasks seat ≡ Task.Running attempt → HasFewRollbacks refused (has_gone_home seat attempt UndoReason.Stopped parts)
+  running-home stopped task = counted-home UndoReason.Stopped (stopped-home refused parts s a seat attempt (Task.Running attempt) task refl stopped refl refl)
 
-  pub free-home : parts.stopped ≡ true → task_at parts.tasks seat ≡ Task.Free attempt → HasFewRollbacks refused (has_gone_home seat attempt Reason.Stopped parts)
-  free-home stopped task = counted-home Reason.Stopped (stopped-home refused parts s a seat attempt (Task.Free attempt) task refl stopped refl refl)
+  pub free-home : parts.stopped ≡ true → task_at parts.tasks seat ≡ Task.Free attempt → HasFewRollbacks refused (has_gone_home seat attempt UndoReason.Stopped parts)
+  free-home stopped task = counted-home UndoReason.Stopped (stopped-home refused parts s a seat attempt (Task.Free attempt) task refl stopped refl refl)

@@ -5,7 +5,7 @@ use Rattle.ame_term.specs.Tree.{Val}
 use Rattle.ame_rows.specs.MemoryView.{MemoryView}
 use Rattle.ame_protocol.proofs.Row.CellLemmas.{which}
 use Rattle.ame_protocol.specs.declared.types.Attempt.{Attempt}
-use Rattle.ame_protocol.specs.declared.types.Reason.{Reason}
+use Rattle.ame_protocol.specs.declared.types.UndoReason.{UndoReason}
 use Rattle.ame_protocol.specs.declared.types.Task.{Task}
 use Rattle.ame_protocol.specs.Engine.Parts.{Parts, task_at, attempt_of, member_of}
 use Rattle.ame_protocol.specs.Engine.Simulates.{Simulates}
@@ -22,9 +22,9 @@ reason-on : (old new : Parts) (task : Task) → ((i : ℕ) → member_of task �
 reason-on old new Task.Idle kept stays h = h
 reason-on old new (Task.Running attempt) kept stays h = h
 reason-on old new (Task.Free attempt) kept stays h = h
-reason-on old new (Task.Undoing attempt Reason.RolledBack) kept stays h = kept attempt.tried.number refl h
-reason-on old new (Task.Undoing attempt Reason.Noted) kept stays h = h
-reason-on old new (Task.Undoing attempt Reason.Stopped) kept stays h = stays h
+reason-on old new (Task.Undoing attempt UndoReason.RolledBack) kept stays h = kept attempt.tried.number refl h
+reason-on old new (Task.Undoing attempt UndoReason.Noted) kept stays h = h
+reason-on old new (Task.Undoing attempt UndoReason.Stopped) kept stays h = stays h
 
 -- The sum over seats if one seat has another task.
 pub sums-step : (old new : Parts) (seat : ℕ) (was now : Task) (f : Task → ℕ) → seat < old.limits.seats → new.limits.seats ≡ old.limits.seats

@@ -14,7 +14,7 @@ use Rattle.ame_rows.specs.LettingGo.{released_all}
 use Rattle.ame_rows.proofs.LookupLemmas.{row_set_here, row_set_else}
 use Rattle.ame_protocol.specs.Row.SeatRun.{HasUsed}
 use Rattle.ame_protocol.specs.declared.types.Attempt.{Attempt}
-use Rattle.ame_protocol.specs.declared.types.Reason.{Reason}
+use Rattle.ame_protocol.specs.declared.types.UndoReason.{UndoReason}
 use Rattle.ame_protocol.specs.declared.types.Task.{Task}
 use Rattle.ame_protocol.specs.Engine.Parts.{Parts, task_at, attempt_of, run_in}
 use Rattle.ame_protocol.specs.Engine.Tasks.{MeetsTask, Visits}
@@ -146,7 +146,7 @@ module _ (parts : Parts) (s : Simulates parts) (a : HasPaidTurns parts) (seat : 
   noted-paid =
       let new = has_noted seat attempt n p parts in
       entry-paid parts s a seat attempt (Task.Running attempt) task refl (stuck_entry seat number n p) parts.memory new.pool (λ k apart. refl) (a.undos seat)
-      (Task.Undoing (record attempt { logged = true }) Reason.Noted) parts.output parts.next (parts.turns + 1) parts.stopped
+      (Task.Undoing (record attempt { logged = true }) UndoReason.Noted) parts.output parts.next (parts.turns + 1) parts.stopped
       (let h = its-used in let i = used-inputs (run_in parts seat number) n p used in let u = a.undos seat in omega arith)
       (λ x e. let same : record attempt { logged = true } ≡ x = cc in let steps = ap (λ (t : Attempt). t.tried.steps) same in
       let h = a.inputs seat attempt (ap attempt_of task) in omega arith)

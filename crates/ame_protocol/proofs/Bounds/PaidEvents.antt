@@ -20,7 +20,7 @@ use Rattle.ame_protocol.specs.Row.Heap.{cell_at}
 use Rattle.ame_protocol.specs.Row.SeatRun.{SeatRun, HasUsed, ComesTo}
 use Rattle.ame_protocol.specs.Row.Own.{given_one, given_outside, given_undo}
 use Rattle.ame_protocol.specs.declared.types.Attempt.{Attempt}
-use Rattle.ame_protocol.specs.declared.types.Reason.{Reason}
+use Rattle.ame_protocol.specs.declared.types.UndoReason.{UndoReason}
 use Rattle.ame_protocol.specs.declared.types.Task.{Task}
 use Rattle.ame_protocol.specs.Engine.Logged.{logged_run, read_by}
 use Rattle.ame_protocol.specs.Engine.Parts.{Parts, heap_in, task_at, attempt_of, term_at, run_in}
@@ -236,4 +236,4 @@ module _ (parts : Parts) (s : Simulates parts) (a : HasPaidTurns parts) (going :
       let slice = parts.limits.slice in
       let old = untold attempt.logged (used_at slice row attempt) told in
       let now = untold attempt.logged (used_at slice row attempt + (1 + (length row.inputs - length row.undos))) told in
-      next-paid (Task.Undoing attempt Reason.RolledBack) (omega arith) refl (λ x e. a.inputs seat x (ap attempt_of task ∙ e)) told
+      next-paid (Task.Undoing attempt UndoReason.RolledBack) (omega arith) refl (λ x e. a.inputs seat x (ap attempt_of task ∙ e)) told

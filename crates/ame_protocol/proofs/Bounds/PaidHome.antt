@@ -9,7 +9,7 @@ use Rattle.ame_rows.specs.MemoryView.{MemoryView, Log, no_log, row_at}
 use Rattle.ame_rows.specs.LettingGo.{but_last, notes_undone, undone_last}
 use Rattle.ame_rows.proofs.LookupLemmas.{row_set_here, row_set_else}
 use Rattle.ame_protocol.specs.declared.types.Attempt.{Attempt}
-use Rattle.ame_protocol.specs.declared.types.Reason.{Reason}
+use Rattle.ame_protocol.specs.declared.types.UndoReason.{UndoReason}
 use Rattle.ame_protocol.specs.declared.types.Task.{Task}
 use Rattle.ame_protocol.specs.Engine.Parts.{Parts, task_at, attempt_of}
 use Rattle.ame_protocol.specs.Engine.Tasks.{MeetsTask, Visits}
@@ -66,7 +66,7 @@ module _ (parts : Parts) (s : Simulates parts) (a : HasPaidTurns parts) (seat : 
 
     -- Undos
 
-    module _ (reason : Reason) (some : 1 < length row.undos) where
+    module _ (reason : UndoReason) (some : 1 < length row.undos) where
       abbrev now : Task
       now = Task.Undoing attempt reason
 
@@ -106,7 +106,7 @@ module _ (parts : Parts) (s : Simulates parts) (a : HasPaidTurns parts) (seat : 
 
     -- The way home
 
-    home-by : (reason : Reason) (turns : ℕ) → length row.undos ≤ 1
+    home-by : (reason : UndoReason) (turns : ℕ) → length row.undos ≤ 1
         → turns + allowance slice row was ≤ parts.turns + (undos_left row was + (if attempt.logged then 0 else 3 * (attempt.tried.steps + slice + 1)))
         → HasPaidTurns (gone_parts seat attempt reason turns parts)
     home-by reason turns few enough =
@@ -124,7 +124,7 @@ module _ (parts : Parts) (s : Simulates parts) (a : HasPaidTurns parts) (seat : 
           told = λ h. tt;
         })
 
-    pub home-paid : (reason : Reason) → length row.undos ≤ 1
+    pub home-paid : (reason : UndoReason) → length row.undos ≤ 1
         → (parts.stopped ≡ true → allowance slice row was ≤ undos_left row was + (if attempt.logged then 0 else 3 * (attempt.tried.steps + slice + 1)))
         → (parts.stopped ≡ false → 1 + allowance slice row was ≤ undos_left row was + (if attempt.logged then 0 else 3 * (attempt.tried.steps + slice + 1)))
         → HasPaidTurns (has_gone_home seat attempt reason parts)
@@ -144,7 +144,7 @@ module _ (parts : Parts) (s : Simulates parts) (a : HasPaidTurns parts) (seat : 
   abbrev undoing : ℕ
   undoing = used_at slice row attempt + (1 + (length row.inputs - length row.undos))
 
-  pub undoing-more : (reason : Reason) → task_at parts.tasks seat ≡ Task.Undoing attempt reason → 1 < length row.undos
+  pub undoing-more : (reason : UndoReason) → task_at parts.tasks seat ≡ Task.Undoing attempt reason → 1 < length row.undos
       → HasPaidTurns (has_undone seat attempt reason parts)
   undoing-more reason task some =
       let told = (λ (going : parts.stopped ≡ false). subst IsToldInTime task (a.told going seat)) in
@@ -163,28 +163,28 @@ module _ (parts : Parts) (s : Simulates parts) (a : HasPaidTurns parts) (seat : 
           → undoing + 1 ≤ used_at slice notes attempt + (1 + (length notes.inputs - length notes.undos))
       more-undoing notes u i some = let low = a.undos seat in omega arith
 
-      stopped : (reason : Reason) (notes : Log Val) (later : ℕ) → undoing + 1 ≤ later → length notes.undos ≡ length row.undos - 1
+      stopped : (reason : UndoReason) (notes : Log Val) (later : ℕ) → undoing + 1 ≤ later → length notes.undos ≡ length row.undos - 1
           → undos_left notes (Task.Undoing attempt reason) + (if attempt.logged then 0 else undoing)
           ≤ undos_left row (Task.Undoing attempt reason) + (if attempt.logged then 0 else later)
-      stopped Reason.RolledBack notes later more u = let m = more-allowed attempt.logged undoing later (omega arith) in omega arith
-      stopped Reason.Noted notes later more u = let m = more-allowed attempt.logged undoing later (omega arith) in omega arith
-      stopped Reason.Stopped notes later more u = let m = more-allowed attempt.logged undoing later (omega arith) in omega arith
+      stopped UndoReason.RolledBack notes later more u = let m = more-allowed attempt.logged undoing later (omega arith) in omega arith
+      stopped UndoReason.Noted notes later more u = let m = more-allowed attempt.logged undoing later (omega arith) in omega arith
+      stopped UndoReason.Stopped notes later more u = let m = more-allowed attempt.logged undoing later (omega arith) in omega arith
 
-      counted : (reason : Reason) (notes : Log Val) (later : ℕ) → undoing + 1 ≤ later → length notes.undos ≡ length row.undos - 1
+      counted : (reason : UndoReason) (notes : Log Val) (later : ℕ) → undoing + 1 ≤ later → length notes.undos ≡ length row.undos - 1
           → 1 < length row.undos → IsToldInTime (Task.Undoing attempt reason)
           → 1 + (undos_left notes (Task.Undoing attempt reason) + (if attempt.logged then 0 else undoing))
           ≤ undos_left row (Task.Undoing attempt reason) + (if attempt.logged then 0 else later)
-      counted Reason.RolledBack notes later more u some told =
+      counted UndoReason.RolledBack notes later more u some told =
           let o = untold attempt.logged undoing told in let n = untold attempt.logged later told in omega arith
-      counted Reason.Noted notes later more u some told =
+      counted UndoReason.Noted notes later more u some told =
           let o = told-none attempt.logged undoing told in let n = told-none attempt.logged later told in omega arith
-      counted Reason.Stopped notes later more u some told = absurd told
+      counted UndoReason.Stopped notes later more u some told = absurd told
 
   pub running-more : parts.stopped ≡ true → task_at parts.tasks seat ≡ Task.Running attempt → 1 < length row.undos
-      → HasPaidTurns (has_undone seat attempt Reason.Stopped parts)
+      → HasPaidTurns (has_undone seat attempt UndoReason.Stopped parts)
   running-more stopped task some =
-      undone-paid (Task.Running attempt) task refl Reason.Stopped some
-      (λ e. let h = less later_row (later-inputs (Task.Running attempt) task refl Reason.Stopped some) in omega arith)
+      undone-paid (Task.Running attempt) task refl UndoReason.Stopped some
+      (λ e. let h = less later_row (later-inputs (Task.Running attempt) task refl UndoReason.Stopped some) in omega arith)
       (λ going. absurd (clash going)) (λ going. absurd (clash going))
     where
       clash : parts.stopped ≡ false → ⊥
@@ -196,7 +196,7 @@ module _ (parts : Parts) (s : Simulates parts) (a : HasPaidTurns parts) (seat : 
       less notes i =
           more-allowed attempt.logged (used_at slice row attempt) (used_at slice notes attempt + (1 + (length notes.inputs - length notes.undos))) (omega arith)
 
-  pub undoing-home : (reason : Reason) → task_at parts.tasks seat ≡ Task.Undoing attempt reason → length row.undos ≤ 1
+  pub undoing-home : (reason : UndoReason) → task_at parts.tasks seat ≡ Task.Undoing attempt reason → length row.undos ≤ 1
       → HasPaidTurns (has_gone_home seat attempt reason parts)
   undoing-home reason task few =
       let enough = used-few (Task.Undoing attempt reason) task refl in
@@ -204,29 +204,29 @@ module _ (parts : Parts) (s : Simulates parts) (a : HasPaidTurns parts) (seat : 
       (λ e. let m = more-allowed attempt.logged undoing (3 * (attempt.tried.steps + slice + 1)) (omega arith) in omega arith)
       (λ going. counted reason (3 * (attempt.tried.steps + slice + 1)) enough (subst IsToldInTime task (a.told going seat)))
     where
-      counted : (reason : Reason) (pays : ℕ) → undoing + 1 ≤ pays → IsToldInTime (Task.Undoing attempt reason)
+      counted : (reason : UndoReason) (pays : ℕ) → undoing + 1 ≤ pays → IsToldInTime (Task.Undoing attempt reason)
           → 1 + (if attempt.logged then 0 else undoing) ≤ undos_left row (Task.Undoing attempt reason) + (if attempt.logged then 0 else pays)
-      counted Reason.RolledBack pays enough told =
+      counted UndoReason.RolledBack pays enough told =
           let o = untold attempt.logged undoing told in let n = untold attempt.logged pays told in omega arith
-      counted Reason.Noted pays enough told =
+      counted UndoReason.Noted pays enough told =
           let o = told-none attempt.logged undoing told in let n = told-none attempt.logged pays told in omega arith
-      counted Reason.Stopped pays enough told = absurd told
+      counted UndoReason.Stopped pays enough told = absurd told
 
   -- once a stop is kept
   working-home : (was : Task) → task_at parts.tasks seat ≡ was → attempt_of was ≡ Some attempt
       → allowance slice row was ≡ (if attempt.logged then 0 else used_at slice row attempt) → parts.stopped ≡ true → length row.undos ≤ 1
-      → HasPaidTurns (has_gone_home seat attempt Reason.Stopped parts)
+      → HasPaidTurns (has_gone_home seat attempt UndoReason.Stopped parts)
   working-home was had its allowed stopped few =
       let enough = used-few was had its in
-      home-paid was had its Reason.Stopped few
+      home-paid was had its UndoReason.Stopped few
       (λ e. let m = more-allowed attempt.logged (used_at slice row attempt) (3 * (attempt.tried.steps + slice + 1)) (omega arith) in omega arith)
       (λ going. absurd (let both : true ≡ false = sym stopped ∙ going in cc))
 
   pub running-home : parts.stopped ≡ true → task_at parts.tasks seat ≡ Task.Running attempt → length row.undos ≤ 1
-      → HasPaidTurns (has_gone_home seat attempt Reason.Stopped parts)
+      → HasPaidTurns (has_gone_home seat attempt UndoReason.Stopped parts)
   running-home stopped task few = working-home (Task.Running attempt) task refl refl stopped few
 
-  pub free-home : parts.stopped ≡ true → task_at parts.tasks seat ≡ Task.Free attempt → HasPaidTurns (has_gone_home seat attempt Reason.Stopped parts)
+  pub free-home : parts.stopped ≡ true → task_at parts.tasks seat ≡ Task.Free attempt → HasPaidTurns (has_gone_home seat attempt UndoReason.Stopped parts)
   free-home stopped task =
       let visits : Visits parts s.types seat attempt = subst (MeetsTask parts s.types seat) task (s.seats seat) in
       let none = ap (λ (notes : Log Val). length notes.undos) visits.clear in

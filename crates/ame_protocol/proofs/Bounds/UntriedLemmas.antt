@@ -8,7 +8,7 @@ use Rattle.ame_protocol.proofs.Row.CellLemmas.{which}
 use Rattle.ame_machine.specs.Run.Local.{LocalState}
 use Rattle.ame_term.specs.Frame.{Side}
 use Rattle.ame_protocol.specs.declared.types.Attempt.{Attempt}
-use Rattle.ame_protocol.specs.declared.types.Reason.{Reason}
+use Rattle.ame_protocol.specs.declared.types.UndoReason.{UndoReason}
 use Rattle.ame_protocol.specs.declared.types.Task.{Task}
 use Rattle.ame_protocol.specs.Engine.Parts.{Parts, task_at, attempt_of}
 use Rattle.ame_protocol.specs.Engine.Simulates.{Simulates}
@@ -76,7 +76,7 @@ module _ (parts : Parts) (s : Simulates parts) (u : IsUntried parts) (seat : ℕ
       (ap (λ (ts : List Task). task_at ts seat) tasks ∙ here parts s seat attempt (ap attempt_of had ∙ its) now) told
       (λ k apart. ap (λ (ts : List Task). task_at ts k) tasks ∙ task_else parts.tasks seat now k apart)
 
-  module _ (told : attempt.logged ≡ true) (reason : Reason) where
+  module _ (told : attempt.logged ≡ true) (reason : UndoReason) where
     pub undone-untried : IsUntried (has_undone seat attempt reason parts)
     undone-untried = by parts.stopped
       where

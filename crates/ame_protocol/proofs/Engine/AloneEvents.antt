@@ -4,7 +4,7 @@ use Rattle.std.specs.Prelude.{option_map, unwrap_or, if◌then◌else◌}
 use Rattle.std.proofs.lemmas.List.Elements.{All-nil}
 use Rattle.ame_term.specs.Tree.{Val, Tree}
 use Rattle.ame_pool.specs.declared.member.Member.{Member}
-use Rattle.ame_pool.specs.declared.member.Standing.{Standing}
+use Rattle.ame_pool.specs.declared.member.MemberStanding.{MemberStanding}
 use Rattle.ame_pool.specs.declared.oldest.Oldest.{Oldest}
 use Rattle.ame_pool.specs.Members.{IsRising, find, is_busy, is_ready}
 use Rattle.ame_pool.specs.Standings.{max_rollbacks}
@@ -19,7 +19,7 @@ use Rattle.ame_rows.specs.LettingGo.{undone_last}
 use Rattle.ame_protocol.specs.Row.SeatRun.{HasUsed, AreValid, IsValidNote}
 use Rattle.ame_protocol.proofs.Row.CellLemmas.{which}
 use Rattle.ame_protocol.specs.declared.types.Attempt.{Attempt}
-use Rattle.ame_protocol.specs.declared.types.Reason.{Reason}
+use Rattle.ame_protocol.specs.declared.types.UndoReason.{UndoReason}
 use Rattle.ame_protocol.specs.declared.types.Task.{Task}
 use Rattle.ame_protocol.specs.Engine.Parts.{Parts, heap_in, task_at, attempt_of, member_of, run_in}
 use Rattle.ame_protocol.specs.Engine.Tasks.{is_busy_as, is_noted_for, MeetsTask}
@@ -174,13 +174,13 @@ module _ (parts : Parts) (s : Simulates parts) (a : RunsExclusively parts) (seat
       busy-is : (noted : Bool) (x : Member Tree) → IsTrue (is_busy_as noted x) → is_busy x ≡ true
       busy-is noted x h = on noted x.standing h
         where
-          on : (noted : Bool) (z : Standing) → IsTrue (is_busy_as noted (record x { standing = z })) → is_busy (record x { standing = z }) ≡ true
-          on true Standing.Ready h = absurd (let clash : false ≡ true = h in cc)
-          on false Standing.Ready h = absurd (let clash : false ≡ true = h in cc)
-          on true (Standing.Busy w) h = refl
-          on false (Standing.Busy w) h = refl
-          on true (Standing.Parked locs) h = absurd (let clash : false ≡ true = h in cc)
-          on false (Standing.Parked locs) h = absurd (let clash : false ≡ true = h in cc)
+          on : (noted : Bool) (z : MemberStanding) → IsTrue (is_busy_as noted (record x { standing = z })) → is_busy (record x { standing = z }) ≡ true
+          on true MemberStanding.Ready h = absurd (let clash : false ≡ true = h in cc)
+          on false MemberStanding.Ready h = absurd (let clash : false ≡ true = h in cc)
+          on true (MemberStanding.Busy w) h = refl
+          on false (MemberStanding.Busy w) h = refl
+          on true (MemberStanding.Parked locs) h = absurd (let clash : false ≡ true = h in cc)
+          on false (MemberStanding.Parked locs) h = absurd (let clash : false ≡ true = h in cc)
 
       told : (noted : Bool) (i : ℕ) → IsAt (is_busy_as noted) i parts.pool → inside_of i parts.pool ≡ Some false
           → (x : Member Tree) × (find i parts.pool.members ≡ Some x) × (is_busy x ≡ true) × (x.inside ≡ false)
@@ -375,7 +375,7 @@ module _ (parts new : Parts) (a : RunsExclusively parts) (seat : ℕ) (stopped :
 
 -- Undos and the way home
 
-pub more-alone : (parts : Parts) → RunsExclusively parts → (seat : ℕ) (attempt : Attempt) (reason : Reason) → attempt_of (task_at parts.tasks seat) ≡ Some attempt
+pub more-alone : (parts : Parts) → RunsExclusively parts → (seat : ℕ) (attempt : Attempt) (reason : UndoReason) → attempt_of (task_at parts.tasks seat) ≡ Some attempt
     → is_of_protected (task_at parts.tasks seat) ≡ true → (parts.stopped ≡ false → (task_at parts.tasks seat ≡ Task.Running attempt) → ⊥)
     → RunsExclusively (has_undone seat attempt reason parts)
 more-alone parts a seat attempt reason has protected not_running = by parts.stopped
@@ -385,7 +385,7 @@ more-alone parts a seat attempt reason has protected not_running = by parts.stop
     by true = undone-alone parts a seat attempt has protected (Task.Undoing attempt reason) attempt refl refl (undone_last seat parts.memory) parts.turns not_running
     by false = undone-alone parts a seat attempt has protected (Task.Undoing attempt reason) attempt refl refl (undone_last seat parts.memory) (parts.turns + 1) not_running
 
-pub home-alone : (parts : Parts) → Simulates parts → RunsExclusively parts → (seat : ℕ) (attempt : Attempt) (reason : Reason) → attempt_of (task_at parts.tasks seat) ≡ Some attempt
+pub home-alone : (parts : Parts) → Simulates parts → RunsExclusively parts → (seat : ℕ) (attempt : Attempt) (reason : UndoReason) → attempt_of (task_at parts.tasks seat) ≡ Some attempt
     → (parts.stopped ≡ false → is_of_protected (task_at parts.tasks seat) ≡ true) → RunsExclusively (has_gone_home seat attempt reason parts)
 home-alone parts s a seat attempt reason has protected = by parts.stopped
   where

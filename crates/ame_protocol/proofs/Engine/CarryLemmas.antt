@@ -25,7 +25,7 @@ use Rattle.ame_protocol.proofs.Row.TryLemmas.{try-stays}
 use Rattle.ame_protocol.specs.declared.types.Limits.{Limits}
 use Rattle.ame_protocol.specs.declared.types.Tried.{Tried}
 use Rattle.ame_protocol.specs.declared.types.Attempt.{Attempt}
-use Rattle.ame_protocol.specs.declared.types.Reason.{Reason}
+use Rattle.ame_protocol.specs.declared.types.UndoReason.{UndoReason}
 use Rattle.ame_protocol.specs.declared.types.Task.{Task}
 use Rattle.ame_protocol.specs.Engine.Logged.{logged_run}
 use Rattle.ame_protocol.specs.Engine.Parts.{Parts, whole_journal, heap_in, member_of, run_in}
@@ -91,7 +91,7 @@ module _ (old new : Parts) (types later : StoreTyping) (seat : ℕ) (on : GoesOn
             (scoped-others old.signature types later seat (heap_in old) (heap_in new) (run_in old seat i) grows framed h.owes.notes h.scoped));
       }
 
-  undoes-on : (attempt : Attempt) (reason : Reason) → StaysBusy old new attempt.tried.number → Undoes old types seat attempt reason → Undoes new later seat attempt reason
+  undoes-on : (attempt : Attempt) (reason : UndoReason) → StaysBusy old new attempt.tried.number → Undoes old types seat attempt reason → Undoes new later seat attempt reason
   undoes-on attempt reason stays h = record {
     work = work-on old new (is_noted_for reason) attempt on stays h.work;
     outside = stays.inside ∙ h.outside;

@@ -5,7 +5,7 @@ use Rattle.ame_term.specs.Tree.{Tree}
 use Rattle.ame_term.specs.Maps.{at, put}
 use Rattle.ame_laws.proofs.MapLemmas.{at-put_same, at-put_other}
 use Rattle.ame_pool.specs.declared.member.Member.{Member}
-use Rattle.ame_pool.specs.declared.member.Standing.{Standing}
+use Rattle.ame_pool.specs.declared.member.MemberStanding.{MemberStanding}
 use Rattle.ame_pool.specs.Members.{IsRising, find}
 use Rattle.ame_pool.specs.Found.{IsFoundAfter}
 use Rattle.ame_pool.specs.Roster.{Roster}
@@ -46,15 +46,15 @@ keeps-same old new i same = record {
 stirred-busy : (l : ℕ) (noted : Bool) (m : Member Tree) → IsTrue (is_busy_as noted m) → IsTrue (is_busy_as noted (stirred_by l m))
 stirred-busy l noted m h = by noted m.standing h
   where
-    by : (noted : Bool) (x : Standing) → IsTrue (is_busy_as noted (record m { standing = x })) → IsTrue (is_busy_as noted (record m { standing = stirred l x }))
-    by true Standing.Ready h = h
-    by false Standing.Ready h = h
-    by true (Standing.Busy None) h = h
-    by false (Standing.Busy None) h = h
-    by true (Standing.Busy (Some w)) h = h
-    by false (Standing.Busy (Some w)) h = h
-    by true (Standing.Parked locs) h = absurd (let clash : false ≡ true = h in cc)
-    by false (Standing.Parked locs) h = absurd (let clash : false ≡ true = h in cc)
+    by : (noted : Bool) (x : MemberStanding) → IsTrue (is_busy_as noted (record m { standing = x })) → IsTrue (is_busy_as noted (record m { standing = stirred l x }))
+    by true MemberStanding.Ready h = h
+    by false MemberStanding.Ready h = h
+    by true (MemberStanding.Busy None) h = h
+    by false (MemberStanding.Busy None) h = h
+    by true (MemberStanding.Busy (Some w)) h = h
+    by false (MemberStanding.Busy (Some w)) h = h
+    by true (MemberStanding.Parked locs) h = absurd (let clash : false ≡ true = h in cc)
+    by false (MemberStanding.Parked locs) h = absurd (let clash : false ≡ true = h in cc)
 
 tells-stirred : {X : Type 0} (l : ℕ) (tell : Member Tree → X) → ((m : Member Tree) → tell (stirred_by l m) ≡ tell m) → (o : Option (Member Tree))
     → option_map tell (option_map (stirred_by l) o) ≡ option_map tell o

@@ -38,7 +38,7 @@ use Rattle.ame_protocol.proofs.Row.ScopedLemmas.{scoped-begun}
 use Rattle.ame_protocol.proofs.Row.CommitLemmas.{typed-still}
 use Rattle.ame_protocol.proofs.Row.TryLemmas.{try-begun}
 use Rattle.ame_protocol.specs.declared.types.Attempt.{Attempt}
-use Rattle.ame_protocol.specs.declared.types.Reason.{Reason}
+use Rattle.ame_protocol.specs.declared.types.UndoReason.{UndoReason}
 use Rattle.ame_protocol.specs.declared.types.Task.{Task}
 use Rattle.ame_protocol.specs.Engine.Logged.{heap_of, logged_run}
 use Rattle.ame_protocol.specs.Engine.Parts.{Parts, whole_journal, heap_in, task_at, attempt_of, member_of, term_at, run_in}
@@ -244,7 +244,7 @@ module _ (parts : Parts) (s : Simulates parts) (seat number : ℕ) (idle : task_
 
 -- The member goes home
 
-abbrev pub gone_parts : ℕ → Attempt → Reason → ℕ → Parts → Parts
+abbrev pub gone_parts : ℕ → Attempt → UndoReason → ℕ → Parts → Parts
 gone_parts seat attempt reason turns parts = record parts {
   memory = undone_last seat parts.memory;
   tasks = set parts.tasks seat Task.Idle;
@@ -253,15 +253,15 @@ gone_parts seat attempt reason turns parts = record parts {
   turns = turns;
 }
 
-pub home-found : (reason : Reason) (n : ℕ) (pool : Roster Tree) → (f : Member Tree → Member Tree) × IsFoundAfter n (option_map f) pool.members (brought_home reason n pool).members
+pub home-found : (reason : UndoReason) (n : ℕ) (pool : Roster Tree) → (f : Member Tree → Member Tree) × IsFoundAfter n (option_map f) pool.members (brought_home reason n pool).members
     × ((m : Member Tree) → (f m).machine ≡ m.machine) × ((m : Member Tree) → (f m).inside ≡ m.inside)
-home-found Reason.RolledBack n pool = (at_home true, found_altered n (at_home true) (λ _. refl) pool.members, λ _. refl, λ _. refl)
-home-found Reason.Noted n pool = (at_rest, found_altered n at_rest (λ _. refl) pool.members, λ _. refl, λ _. refl)
-home-found Reason.Stopped n pool = (at_home false, found_altered n (at_home false) (λ _. refl) pool.members, λ _. refl, λ _. refl)
+home-found UndoReason.RolledBack n pool = (at_home true, found_altered n (at_home true) (λ _. refl) pool.members, λ _. refl, λ _. refl)
+home-found UndoReason.Noted n pool = (at_rest, found_altered n at_rest (λ _. refl) pool.members, λ _. refl, λ _. refl)
+home-found UndoReason.Stopped n pool = (at_home false, found_altered n (at_home false) (λ _. refl) pool.members, λ _. refl, λ _. refl)
 
 module _ (parts : Parts) (s : Simulates parts) (seat : ℕ) (within : seat < length parts.memory.rows)
     (undos : All (IsTypedUndo parts.signature s.types) (row_at parts.memory.rows seat).undos) (turns : ℕ) (later : parts.turns ≤ turns) (left : turns ≤ parts.limits.turns)
-    (attempt : Attempt) (reason : Reason) (has : attempt_of (task_at parts.tasks seat) ≡ Some attempt) (sound : IsSoundIn parts attempt.tried)
+    (attempt : Attempt) (reason : UndoReason) (has : attempt_of (task_at parts.tasks seat) ≡ Some attempt) (sound : IsSoundIn parts attempt.tried)
     (few : length (row_at parts.memory.rows seat).undos ≤ 1) where
   abbrev n : ℕ
   n = attempt.tried.number
@@ -350,7 +350,7 @@ module _ (parts : Parts) (s : Simulates parts) (seat : ℕ) (within : seat < len
       })
 
 pub gone_counted : (parts : Parts) (s : Simulates parts) (seat : ℕ) → seat < length parts.memory.rows → All (IsTypedUndo parts.signature s.types) (row_at parts.memory.rows seat).undos
-    → (attempt : Attempt) (reason : Reason) → attempt_of (task_at parts.tasks seat) ≡ Some attempt → IsSoundIn parts attempt.tried
+    → (attempt : Attempt) (reason : UndoReason) → attempt_of (task_at parts.tasks seat) ≡ Some attempt → IsSoundIn parts attempt.tried
     → (parts.stopped ≡ false → parts.turns < parts.limits.turns) → length (row_at parts.memory.rows seat).undos ≤ 1 → Simulates (has_gone_home seat attempt reason parts)
 gone_counted parts s seat within undos attempt reason has sound left few = by parts.stopped refl
   where
@@ -365,7 +365,7 @@ module _ (parts : Parts) (seat : ℕ) (attempt : Attempt) where
   has-rows : (s : Simulates parts) → attempt_of (task_at parts.tasks seat) ≡ Some attempt → seat < length parts.memory.rows
   has-rows s has = let h = seat_within parts.tasks seat attempt has in omega (arith, s.bounded.tasks, s.bounded.rows)
 
-  module _ (reason : Reason) (s : Simulates parts) (task : task_at parts.tasks seat ≡ Task.Undoing attempt reason) (left : parts.stopped ≡ false → parts.turns < parts.limits.turns) where
+  module _ (reason : UndoReason) (s : Simulates parts) (task : task_at parts.tasks seat ≡ Task.Undoing attempt reason) (left : parts.stopped ≡ false → parts.turns < parts.limits.turns) where
     its-undoes : Undoes parts s.types seat attempt reason
     its-undoes = subst (MeetsTask parts s.types seat) task (s.seats seat)
 
@@ -379,18 +379,18 @@ module _ (parts : Parts) (seat : ℕ) (attempt : Attempt) where
     its-runs : RunsProtected parts s.types seat attempt
     its-runs = subst (MeetsTask parts s.types seat) task (s.seats seat)
 
-    pub running_more : 1 < length (row_at parts.memory.rows seat).undos → Simulates (has_undone seat attempt Reason.Stopped parts)
+    pub running_more : 1 < length (row_at parts.memory.rows seat).undos → Simulates (has_undone seat attempt UndoReason.Stopped parts)
     running_more more =
-        undo_counted parts s seat (has-rows s (ap attempt_of task)) its-runs.typed.undos attempt Reason.Stopped (ap attempt_of task) its-runs.work its-runs.outside left more
+        undo_counted parts s seat (has-rows s (ap attempt_of task)) its-runs.typed.undos attempt UndoReason.Stopped (ap attempt_of task) its-runs.work its-runs.outside left more
 
-    pub running_home : length (row_at parts.memory.rows seat).undos ≤ 1 → Simulates (has_gone_home seat attempt Reason.Stopped parts)
+    pub running_home : length (row_at parts.memory.rows seat).undos ≤ 1 → Simulates (has_gone_home seat attempt UndoReason.Stopped parts)
     running_home few =
-        gone_counted parts s seat (has-rows s (ap attempt_of task)) its-runs.typed.undos attempt Reason.Stopped (ap attempt_of task) its-runs.work.sound left few
+        gone_counted parts s seat (has-rows s (ap attempt_of task)) its-runs.typed.undos attempt UndoReason.Stopped (ap attempt_of task) its-runs.work.sound left few
 
   pub free_home : (s : Simulates parts) → task_at parts.tasks seat ≡ Task.Free attempt → (parts.stopped ≡ false → parts.turns < parts.limits.turns)
-      → Simulates (has_gone_home seat attempt Reason.Stopped parts)
+      → Simulates (has_gone_home seat attempt UndoReason.Stopped parts)
   free_home s task left =
       let h : Visits parts s.types seat attempt = subst (MeetsTask parts s.types seat) task (s.seats seat) in
       let none : (row_at parts.memory.rows seat).undos ≡ [] = ap (λ (n : Log Val). n.undos) h.clear in
       gone_counted parts s seat (has-rows s (ap attempt_of task)) (subst (All (IsTypedUndo parts.signature s.types)) (sym none) (All-nil (IsTypedUndo parts.signature s.types)))
-      attempt Reason.Stopped (ap attempt_of task) h.work.sound left (let e = ap (λ (xs : List (Undo Val)). length xs) none in omega arith)
+      attempt UndoReason.Stopped (ap attempt_of task) h.work.sound left (let e = ap (λ (xs : List (Undo Val)). length xs) none in omega arith)

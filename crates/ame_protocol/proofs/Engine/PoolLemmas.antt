@@ -3,7 +3,7 @@ use Rattle.std.proofs.Common.{◌≡◌, ℕ, ◌⊎◌, inl, inr, Bool, true, f
 use Rattle.std.specs.Prelude.{option_map, unwrap_or, is_some, is_none, if◌then◌else◌}
 use Rattle.ame_term.specs.Tree.{Tree, unit_tree}
 use Rattle.ame_pool.specs.declared.member.Member.{Member}
-use Rattle.ame_pool.specs.declared.member.Standing.{Standing}
+use Rattle.ame_pool.specs.declared.member.MemberStanding.{MemberStanding}
 use Rattle.ame_pool.specs.Members.{find, is_ready}
 use Rattle.ame_pool.specs.Found.{IsFoundAfter}
 use Rattle.ame_pool.specs.Roster.{Roster}
@@ -26,12 +26,12 @@ found-machine pool i noted h = found-by pool i (find i pool.members) (is_busy_as
 busy-not_ready : (noted : Bool) (m : Member Tree) → IsTrue (is_busy_as noted m) → IsTrue (is_ready m) → ⊥
 busy-not_ready noted m busy ready = by noted m.standing busy ready
   where
-    by : (noted : Bool) (x : Standing) → IsTrue (if noted then elim x [ Standing.Ready ↦ false | Standing.Busy w ↦ is_some w | Standing.Parked _ ↦ false ] else elim x [ Standing.Ready ↦ false | Standing.Busy w ↦ is_none w | Standing.Parked _ ↦ false ])
-        → IsTrue (elim x [ Standing.Ready ↦ true | Standing.Busy _ ↦ false | Standing.Parked _ ↦ false ]) → ⊥
-    by true Standing.Ready busy ready = cc
-    by false Standing.Ready busy ready = cc
-    by noted (Standing.Busy w) busy ready = cc
-    by noted (Standing.Parked locs) busy ready = cc
+    by : (noted : Bool) (x : MemberStanding) → IsTrue (if noted then elim x [ MemberStanding.Ready ↦ false | MemberStanding.Busy w ↦ is_some w | MemberStanding.Parked _ ↦ false ] else elim x [ MemberStanding.Ready ↦ false | MemberStanding.Busy w ↦ is_none w | MemberStanding.Parked _ ↦ false ])
+        → IsTrue (elim x [ MemberStanding.Ready ↦ true | MemberStanding.Busy _ ↦ false | MemberStanding.Parked _ ↦ false ]) → ⊥
+    by true MemberStanding.Ready busy ready = cc
+    by false MemberStanding.Ready busy ready = cc
+    by noted (MemberStanding.Busy w) busy ready = cc
+    by noted (MemberStanding.Parked locs) busy ready = cc
 
 -- One member is altered
 

@@ -17,7 +17,7 @@ use Rattle.ame_protocol.specs.Row.SeatRun.{HasUsed, AreValid}
 use Rattle.ame_protocol.specs.Row.Framed.{IsFramedAt}
 use Rattle.ame_protocol.proofs.Row.TryLemmas.{try-checked}
 use Rattle.ame_protocol.specs.declared.types.Attempt.{Attempt}
-use Rattle.ame_protocol.specs.declared.types.Reason.{Reason}
+use Rattle.ame_protocol.specs.declared.types.UndoReason.{UndoReason}
 use Rattle.ame_protocol.specs.declared.types.Task.{Task}
 use Rattle.ame_protocol.specs.Engine.Parts.{Parts, whole_journal, heap_in, task_at, attempt_of, member_of, term_at, run_in}
 use Rattle.ame_protocol.specs.Engine.Tasks.{HasAtWork, RunsProtected, MeetsTask}
@@ -121,7 +121,7 @@ module _ (parts : Parts) (s : Simulates parts) (seat : ℕ) (attempt : Attempt) 
 
   pub turned_back : Simulates (has_turned_back seat attempt parts)
   turned_back =
-      let next = Task.Undoing attempt Reason.RolledBack in
+      let next = Task.Undoing attempt UndoReason.RolledBack in
       retask next refl (record { work = its-work (tasks_with next); outside = its-runs.outside; undos = its-runs.typed.undos })
 
   module _ (n : ℕ) (p : LocalState) (place : HasUsed (run_in parts seat attempt.tried.number) n p) (some : 0 < n)

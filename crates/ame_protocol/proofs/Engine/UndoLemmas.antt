@@ -26,7 +26,7 @@ use Rattle.ame_protocol.proofs.Row.CellLemmas.{owned_cell}
 use Rattle.ame_protocol.proofs.Row.EventLemmas.{restored-framed, killed-framed}
 use Rattle.ame_protocol.proofs.Row.TypedRunLemmas.{heap-stays}
 use Rattle.ame_protocol.specs.declared.types.Attempt.{Attempt}
-use Rattle.ame_protocol.specs.declared.types.Reason.{Reason}
+use Rattle.ame_protocol.specs.declared.types.UndoReason.{UndoReason}
 use Rattle.ame_protocol.specs.declared.types.Task.{Task}
 use Rattle.ame_protocol.specs.Engine.Logged.{heap_of}
 use Rattle.ame_protocol.specs.Engine.Parts.{Parts, heap_in, task_at, attempt_of, member_of}
@@ -162,7 +162,7 @@ module _ (parts : Parts) (s : Simulates parts) (seat : ℕ) (within : seat < len
       by (inr x) = front-typed x.0 x.1 x.2
 
   -- others are left
-  module _ (attempt : Attempt) (reason : Reason) (has : attempt_of (task_at parts.tasks seat) ≡ Some attempt) (work : HasAtWork parts (is_noted_for reason) attempt) (outside : inside_of attempt.tried.number parts.pool ≡ Some false)
+  module _ (attempt : Attempt) (reason : UndoReason) (has : attempt_of (task_at parts.tasks seat) ≡ Some attempt) (work : HasAtWork parts (is_noted_for reason) attempt) (outside : inside_of attempt.tried.number parts.pool ≡ Some false)
       (left : turns ≤ parts.limits.turns) (more : 1 < length row.undos) where
     abbrev tasks : List Task
     tasks = set parts.tasks seat (Task.Undoing attempt reason)
@@ -204,7 +204,7 @@ module _ (parts : Parts) (s : Simulates parts) (seat : ℕ) (within : seat < len
 
 -- an undo counts as a turn while no stop is kept
 pub undo_counted : (parts : Parts) (s : Simulates parts) (seat : ℕ) → seat < length parts.memory.rows → All (IsTypedUndo parts.signature s.types) (row_at parts.memory.rows seat).undos
-    → (attempt : Attempt) (reason : Reason) → attempt_of (task_at parts.tasks seat) ≡ Some attempt → HasAtWork parts (is_noted_for reason) attempt → inside_of attempt.tried.number parts.pool ≡ Some false
+    → (attempt : Attempt) (reason : UndoReason) → attempt_of (task_at parts.tasks seat) ≡ Some attempt → HasAtWork parts (is_noted_for reason) attempt → inside_of attempt.tried.number parts.pool ≡ Some false
     → (parts.stopped ≡ false → parts.turns < parts.limits.turns) → 1 < length (row_at parts.memory.rows seat).undos → Simulates (has_undone seat attempt reason parts)
 undo_counted parts s seat within undos attempt reason has work outside left more = by parts.stopped refl
   where

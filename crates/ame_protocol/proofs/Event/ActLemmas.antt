@@ -34,15 +34,15 @@ use Rattle.ame_protocol.specs.Event.Event.{Event}
 use Rattle.ame_protocol.specs.Event.May.{ComesToAct, HasATurn, MayBegin}
 use Rattle.ame_protocol.specs.Event.Seated.{AreSeated}
 use Rattle.ame_protocol.specs.Event.Sound.{Sound}
-use Rattle.ame_protocol.specs.Event.State.{State, cell}
+use Rattle.ame_protocol.specs.Event.EngineState.{EngineState, cell}
 use Rattle.ame_protocol.proofs.Event.PoolLemmas.{busy-held}
 use Rattle.ame_protocol.proofs.Event.SeatedLemmas.{seated-begun, seated-still}
 
 -- while no stop is kept
-pub not-stopped : (s : State) → Sound s → s.stop ≡ None → s.parts.stopped ≡ false
+pub not-stopped : (s : EngineState) → Sound s → s.stop ≡ None → s.parts.stopped ≡ false
 not-stopped s h going = h.stopped ∙ ap (λ (o : Option Stop). is_some o) going
 
-module _ (s : State) (h : Sound s) (g : HasATurn s) where
+module _ (s : EngineState) (h : Sound s) (g : HasATurn s) where
   abbrev parts : Parts
   parts = s.parts
 

@@ -3,7 +3,7 @@ use Rattle.std.proofs.Common.{◌≡◌, ℕ, ◌+◌, Bool, true, false, refl, 
 use Rattle.ame_pool.specs.Begin.{is_exhausted}
 use Rattle.ame_pool.specs.Calls.{IsAt}
 use Rattle.ame_protocol.specs.declared.types.Attempt.{Attempt}
-use Rattle.ame_protocol.specs.declared.types.Reason.{Reason}
+use Rattle.ame_protocol.specs.declared.types.UndoReason.{UndoReason}
 use Rattle.ame_protocol.specs.declared.types.Task.{Task}
 use Rattle.ame_protocol.specs.Engine.Parts.{Parts, task_at, attempt_of}
 use Rattle.ame_protocol.specs.Engine.Alone.{is_of_protected, RunsExclusively}
@@ -16,8 +16,8 @@ turned_alone parts a seat attempt task fresh = by parts.stopped refl
   where
     by : (b : Bool) → parts.stopped ≡ b → RunsExclusively (has_turned_back seat attempt parts)
     by true e =
-        undone-alone parts a seat attempt (ap attempt_of task) (ap is_of_protected task) (Task.Undoing attempt Reason.RolledBack) attempt refl refl
+        undone-alone parts a seat attempt (ap attempt_of task) (ap is_of_protected task) (Task.Undoing attempt UndoReason.RolledBack) attempt refl refl
         parts.memory (parts.turns + 1) (λ going _. let clash : true ≡ false = sym e ∙ going in cc)
     by false e =
-        back-alone parts a seat attempt (ap attempt_of task) (ap is_of_protected task) (Task.Undoing attempt Reason.RolledBack) attempt refl refl
+        back-alone parts a seat attempt (ap attempt_of task) (ap is_of_protected task) (Task.Undoing attempt UndoReason.RolledBack) attempt refl refl
         parts.memory (parts.turns + 1) (fresh e)

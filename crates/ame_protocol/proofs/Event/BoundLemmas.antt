@@ -16,7 +16,7 @@ use Rattle.ame_protocol.specs.Row.Heap.{cell_at}
 use Rattle.ame_protocol.specs.Row.SeatRun.{ComesTo, HasUsed, IsValidNote, AreValid}
 use Rattle.ame_protocol.specs.declared.types.Attempt.{Attempt}
 use Rattle.ame_protocol.specs.declared.types.Limits.{Limits}
-use Rattle.ame_protocol.specs.declared.types.Reason.{Reason}
+use Rattle.ame_protocol.specs.declared.types.UndoReason.{UndoReason}
 use Rattle.ame_protocol.specs.declared.types.Task.{Task}
 use Rattle.ame_protocol.specs.Engine.Parts.{Parts, heap_in, task_at, run_in, attempt_of, working}
 use Rattle.ame_protocol.specs.Engine.Tasks.{Visits, MeetsTask}
@@ -52,9 +52,9 @@ reason-same : (old : Parts) (memory : MemoryView Val) (turns : ℕ) (stopped : B
 reason-same old memory turns stopped stays Task.Idle h = h
 reason-same old memory turns stopped stays (Task.Running attempt) h = h
 reason-same old memory turns stopped stays (Task.Free attempt) h = h
-reason-same old memory turns stopped stays (Task.Undoing attempt Reason.RolledBack) h = h
-reason-same old memory turns stopped stays (Task.Undoing attempt Reason.Noted) h = h
-reason-same old memory turns stopped stays (Task.Undoing attempt Reason.Stopped) h = stays h
+reason-same old memory turns stopped stays (Task.Undoing attempt UndoReason.RolledBack) h = h
+reason-same old memory turns stopped stays (Task.Undoing attempt UndoReason.Noted) h = h
+reason-same old memory turns stopped stays (Task.Undoing attempt UndoReason.Stopped) h = stays h
 
 -- where cells, turns and a stop are all that changes
 few-same : (refused : ℕ) (old : Parts) (memory : MemoryView Val) (turns : ℕ) (stopped : Bool) → (old.stopped ≡ true → stopped ≡ true)
@@ -118,7 +118,7 @@ module _ (parts : Parts) (s : Simulates parts) (stop : Option Stop) (none : stop
       → MayTurnBack attempt.tried.number parts.pool → (parts.limits.seats ≡ 1 → ⊥) → KeepsBounds stop later (has_turned_back seat attempt parts)
   back-bounded more seat attempt task may crowded = still (has_turned_back seat attempt parts) (record {
     few = subst (λ (n : ℕ). HasFewRollbacks n (has_turned_back seat attempt parts)) (sym more)
-        (acted-few (refusals counters) (refusals counters + 1) parts s b.few seat attempt (Task.Running attempt) (Task.Undoing attempt Reason.RolledBack) task
+        (acted-few (refusals counters) (refusals counters + 1) parts s b.few seat attempt (Task.Running attempt) (Task.Undoing attempt UndoReason.RolledBack) task
         refl may (omega arith) (λ i e. e) (omega arith) parts.memory (parts.turns + 1));
     paid = back-paid parts s b.paid going seat attempt task;
     untried = λ one. absurd (crowded one);
@@ -216,7 +216,7 @@ module _ (parts : Parts) (s : Simulates parts) (stop : Option Stop) (none : stop
           paid = noted-paid parts s b.paid seat attempt task n p used low;
           untried = λ one.
               next-untried parts s (b.untried one) seat attempt (Task.Running attempt) task refl (has_noted seat attempt n p parts)
-              (Task.Undoing (record attempt { logged = true }) Reason.Noted) refl refl refl refl;
+              (Task.Undoing (record attempt { logged = true }) UndoReason.Noted) refl refl refl refl;
         })
 
     -- it visits a member that is inside, or its device fails
@@ -317,11 +317,11 @@ module _ (parts : Parts) (s : Simulates parts) (stop : Option Stop) (counters la
       let same : a ≡ attempt = cc in
       let task : task_at parts.tasks seat ≡ Task.Running attempt = e ∙ ap Task.Running same in
       let stopped = stopped-then (Task.Running a) refl undoes in
-      bounded-by (has_undone seat attempt Reason.Stopped parts) (undone-limits parts.stopped _)
-      (undone-few (refusals counters) parts s b.few seat attempt (Task.Running attempt) task refl Reason.Stopped stopped refl refl refl)
+      bounded-by (has_undone seat attempt UndoReason.Stopped parts) (undone-limits parts.stopped _)
+      (undone-few (refusals counters) parts s b.few seat attempt (Task.Running attempt) task refl UndoReason.Stopped stopped refl refl refl)
       (λ paid. running-more_paid parts s paid seat attempt stopped task more)
       (λ u. let told : parts.stopped ≡ true → attempt.logged ≡ true = subst (IsToldOf parts.stopped) task (u.told seat) in
-      undone-untried parts s u seat attempt (Task.Running attempt) task refl (told stopped) Reason.Stopped)
+      undone-untried parts s u seat attempt (Task.Running attempt) task refl (told stopped) UndoReason.Stopped)
   undone-bounded (Task.Free a) e h undoes more = absurd (let none = unvisited a e in omega (arith, none, more))
   undone-bounded (Task.Undoing a r) e h undoes more =
       let same : a ≡ attempt = cc in
@@ -339,20 +339,20 @@ module _ (parts : Parts) (s : Simulates parts) (stop : Option Stop) (counters la
       let same : a ≡ attempt = cc in
       let task : task_at parts.tasks seat ≡ Task.Running attempt = e ∙ ap Task.Running same in
       let stopped = stopped-then (Task.Running a) refl undoes in
-      bounded-by (has_gone_home seat attempt Reason.Stopped parts) (undone-limits parts.stopped _)
+      bounded-by (has_gone_home seat attempt UndoReason.Stopped parts) (undone-limits parts.stopped _)
       (running-home (refusals counters) parts s b.few seat attempt stopped task)
       (λ paid. running-home_paid parts s paid seat attempt stopped task few)
       (λ u. let told : parts.stopped ≡ true → attempt.logged ≡ true = subst (IsToldOf parts.stopped) task (u.told seat) in
-      home-untried parts s u seat attempt (Task.Running attempt) task refl (told stopped) Reason.Stopped)
+      home-untried parts s u seat attempt (Task.Running attempt) task refl (told stopped) UndoReason.Stopped)
   home-bounded (Task.Free a) e h undoes few =
       let same : a ≡ attempt = cc in
       let task : task_at parts.tasks seat ≡ Task.Free attempt = e ∙ ap Task.Free same in
       let stopped = stopped-then (Task.Free a) refl undoes in
-      bounded-by (has_gone_home seat attempt Reason.Stopped parts) (undone-limits parts.stopped _)
+      bounded-by (has_gone_home seat attempt UndoReason.Stopped parts) (undone-limits parts.stopped _)
       (free-home (refusals counters) parts s b.few seat attempt stopped task)
       (λ paid. free-home_paid parts s paid seat attempt stopped task)
       (λ u. let told : parts.stopped ≡ true → attempt.logged ≡ true = subst (IsToldOf parts.stopped) task (u.told seat) in
-      home-untried parts s u seat attempt (Task.Free attempt) task refl (told stopped) Reason.Stopped)
+      home-untried parts s u seat attempt (Task.Free attempt) task refl (told stopped) UndoReason.Stopped)
   home-bounded (Task.Undoing a r) e h undoes few =
       let same : a ≡ attempt = cc in
       let task : task_at parts.tasks seat ≡ Task.Undoing attempt r = e ∙ ap (λ (x : Attempt). Task.Undoing x r) same in

@@ -7,7 +7,7 @@ use Rattle.ame_term.specs.Tree.{Tree}
 use Rattle.ame_journal.specs.declared.entry.Entry.{Entry}
 use Rattle.ame_journal.specs.Replay.{replay}
 use Rattle.ame_pool.specs.declared.member.Member.{Member}
-use Rattle.ame_pool.specs.declared.member.Standing.{Standing}
+use Rattle.ame_pool.specs.declared.member.MemberStanding.{MemberStanding}
 use Rattle.ame_pool.specs.declared.oldest.Oldest.{Oldest}
 use Rattle.ame_pool.specs.Members.{find, is_parked, altered}
 use Rattle.ame_pool.specs.Roster.{Roster}
@@ -15,7 +15,7 @@ use Rattle.ame_pool.specs.Calls.{IsAt, at_home, at_rest}
 use Rattle.ame_pool.specs.Begin.{oldest, oldest_or_wait, first_to_begin, members_of}
 use Rattle.ame_protocol.specs.declared.types.Limits.{Limits}
 use Rattle.ame_protocol.specs.declared.types.Attempt.{Attempt}
-use Rattle.ame_protocol.specs.declared.types.Reason.{Reason}
+use Rattle.ame_protocol.specs.declared.types.UndoReason.{UndoReason}
 use Rattle.ame_protocol.specs.declared.types.Task.{Task}
 use Rattle.ame_protocol.specs.Engine.Parts.{Parts, whole_journal, task_at, attempt_of}
 use Rattle.ame_protocol.specs.Engine.Tasks.{is_busy_as, is_noted_for, RunsProtected, Visits, Undoes, MeetsTask}
@@ -32,11 +32,11 @@ use Rattle.ame_protocol.specs.Event.Faults.{LeadsToCall}
 busy-unparked : (noted : Bool) (m : Member Tree) → IsTrue (is_busy_as noted m) → is_parked m ≡ false
 busy-unparked noted m h = by noted m.standing h
   where
-    by : (b : Bool) (x : Standing) → IsTrue (is_busy_as b (record m { standing = x })) → is_parked (record m { standing = x }) ≡ false
-    by b Standing.Ready h = refl
-    by b (Standing.Busy w) h = refl
-    by true (Standing.Parked locs) h = absurd (let clash : false ≡ true = h in cc)
-    by false (Standing.Parked locs) h = absurd (let clash : false ≡ true = h in cc)
+    by : (b : Bool) (x : MemberStanding) → IsTrue (is_busy_as b (record m { standing = x })) → is_parked (record m { standing = x }) ≡ false
+    by b MemberStanding.Ready h = refl
+    by b (MemberStanding.Busy w) h = refl
+    by true (MemberStanding.Parked locs) h = absurd (let clash : false ≡ true = h in cc)
+    by false (MemberStanding.Parked locs) h = absurd (let clash : false ≡ true = h in cc)
 
 not-all : (ms : List (Member Tree)) (i : ℕ) (m : Member Tree) → find i ms ≡ Some m → is_parked m ≡ false → list_all is_parked ms ≡ false
 not-all [] i m e unparked = absurd (let clash : ◌≡◌ {A = Option (Member Tree)} None (Some m) = e in cc)
@@ -176,10 +176,10 @@ altered-some number f (m ∷ ms) some e = by (m.number == number) e
     by true e = let clash : ◌≡◌ {A = List (Member Tree)} (f m ∷ ms) [] = e in cc
     by false e = let clash : ◌≡◌ {A = List (Member Tree)} (m ∷ altered number f ms) [] = e in cc
 
-pub home-some : (reason : Reason) (number : ℕ) (pool : Roster Tree) → (pool.members ≡ [] → ⊥) → (brought_home reason number pool).members ≡ [] → ⊥
-home-some Reason.RolledBack number pool some = altered-some number (at_home true) pool.members some
-home-some Reason.Noted number pool some = altered-some number at_rest pool.members some
-home-some Reason.Stopped number pool some = altered-some number (at_home false) pool.members some
+pub home-some : (reason : UndoReason) (number : ℕ) (pool : Roster Tree) → (pool.members ≡ [] → ⊥) → (brought_home reason number pool).members ≡ [] → ⊥
+home-some UndoReason.RolledBack number pool some = altered-some number (at_home true) pool.members some
+home-some UndoReason.Noted number pool some = altered-some number at_rest pool.members some
+home-some UndoReason.Stopped number pool some = altered-some number (at_home false) pool.members some
 
 -- While no stop is kept
 

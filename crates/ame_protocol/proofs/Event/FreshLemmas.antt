@@ -16,7 +16,7 @@ use Rattle.ame_protocol.specs.Event.Causes.{is_ordinary}
 use Rattle.ame_protocol.specs.Event.Event.{Event}
 use Rattle.ame_protocol.specs.Event.Runs.{entries_told}
 use Rattle.ame_protocol.specs.Event.Sound.{Sound}
-use Rattle.ame_protocol.specs.Event.State.{State}
+use Rattle.ame_protocol.specs.Event.EngineState.{EngineState}
 use Rattle.ame_protocol.proofs.Event.PoolLemmas.{good-newcomers}
 use Rattle.ame_protocol.proofs.Event.RollbackLemmas.{woken-good}
 use Rattle.ame_protocol.specs.Waits.Noted.{stuck_entry}
@@ -55,7 +55,7 @@ afresh-noted number locs pool =
 afresh-removed : (number : ℕ) (pool : Roster Tree) → IsRising pool.members → rollbacks_at number (removed number pool) ≡ 0
 afresh-removed number pool rising = afresh-gone number pool (removed number pool) (found_except number pool.members rising).here
 
-module _ (s : State) (h : Sound s) where
+module _ (s : EngineState) (h : Sound s) where
   rising-later : (woken : List ℕ) (bodies : List Tree) → IsRising (with_newcomers s.parts.next bodies (woken_for woken s.parts.pool)).members
   rising-later woken bodies =
       (good-newcomers s.parts.next bodies (woken_for woken s.parts.pool) (woken-free s.parts.next woken s.parts.pool (next-free s.parts h.stands))

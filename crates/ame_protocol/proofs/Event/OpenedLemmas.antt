@@ -18,16 +18,16 @@ use Rattle.ame_pool.specs.Members.{find, is_busy}
 use Rattle.ame_pool.specs.Roster.{Roster}
 use Rattle.ame_pool.specs.Standings.{max_rollbacks}
 use Rattle.ame_pool.specs.declared.member.Member.{Member}
-use Rattle.ame_pool.specs.declared.member.Standing.{Standing}
+use Rattle.ame_pool.specs.declared.member.MemberStanding.{MemberStanding}
 use Rattle.ame_protocol.specs.declared.types.Limits.{Limits}
 use Rattle.ame_protocol.specs.Engine.Parts.{Parts}
-use Rattle.ame_protocol.specs.Visits.Opened.{opened, AreOpened, AreReady, HasMembersOf}
+use Rattle.ame_protocol.specs.Visits.Opened.{opened, AreOpened, AreAllReady, HasMembersOf}
 use Rattle.ame_protocol.specs.Waits.Waiting.{AreWaiting, watch_list}
 use Rattle.ame_protocol.specs.Waits.Once.{AreNotedOnce, HasEntryAt}
 use Rattle.ame_protocol.specs.Event.Counting.{nothing_counted}
 use Rattle.ame_protocol.specs.Event.Rollbacks.{IsGoodPool}
 use Rattle.ame_protocol.specs.Event.Sound.{Sound}
-use Rattle.ame_protocol.specs.Event.State.{opened_state}
+use Rattle.ame_protocol.specs.Event.EngineState.{opened_state}
 use Rattle.ame_protocol.proofs.Bounds.PaidEvents.{row-clear}
 use Rattle.ame_protocol.proofs.Engine.StartLemmas.{task-idle}
 use Rattle.ame_protocol.proofs.Visits.OpenLemmas.{opened-stands, opened-alone}
@@ -38,32 +38,32 @@ use Rattle.ame_protocol.proofs.Event.LoneLemmas.{lone-idle}
 use Rattle.ame_protocol.proofs.Event.SeatedLemmas.{seated-none}
 
 -- a pool whose members are ready is good
-pub ready-good : {M : Type 0} (pool : Roster M) → AreReady pool → IsGoodPool pool
+pub ready-good : {M : Type 0} (pool : Roster M) → AreAllReady pool → IsGoodPool pool
 ready-good {M} pool r = record {
   rising = r.rising;
-  few = All-weaker (λ (m : Member M). (m.standing ≡ Standing.Ready) × (m.rollbacks ≡ 0)) (λ (m : Member M). m.rollbacks ≤ max_rollbacks)
+  few = All-weaker (λ (m : Member M). (m.standing ≡ MemberStanding.Ready) × (m.rollbacks ≡ 0)) (λ (m : Member M). m.rollbacks ≤ max_rollbacks)
       (λ m h. let none : m.rollbacks ≡ 0 = h.1 in omega arith) pool.members r.ready;
 }
 
 -- No member waits.
-opened-waiting : (parts : Parts) → AreReady parts.pool → AreWaiting parts
+opened-waiting : (parts : Parts) → AreAllReady parts.pool → AreWaiting parts
 opened-waiting parts r = record { failed = λ i ws e. absurd (by i ws (find i parts.pool.members) refl e) }
   where
     by : (i : ℕ) (ws : List ℕ) (o : Option (Member Tree)) → find i parts.pool.members ≡ o → elim o [ None ↦ None | Some m ↦ watch_list m.standing ] ≡ Some ws → ⊥
     by i ws None is e = let clash : ◌≡◌ {A = Option (List ℕ)} None (Some ws) = e in cc
     by i ws (Some m) is e =
-        let ready = find_passes (λ (z : Member Tree). (z.standing ≡ Standing.Ready) × (z.rollbacks ≡ 0)) i parts.pool.members r.ready m is in
+        let ready = find_passes (λ (z : Member Tree). (z.standing ≡ MemberStanding.Ready) × (z.rollbacks ≡ 0)) i parts.pool.members r.ready m is in
         let clash : ◌≡◌ {A = Option (List ℕ)} None (Some ws) = sym (ap watch_list ready.0) ∙ e in cc
 
 -- No member is busy.
-opened-still : (pool : Roster Tree) → AreReady pool → (i : ℕ) → IsAt is_busy i pool → ⊥
+opened-still : (pool : Roster Tree) → AreAllReady pool → (i : ℕ) → IsAt is_busy i pool → ⊥
 opened-still pool r i busy = by (find i pool.members) refl busy
   where
     by : (o : Option (Member Tree)) → find i pool.members ≡ o → IsSomeAnd o (λ m. IsTrue (is_busy m)) → ⊥
     by None is e = e
     by (Some m) is e =
-        let ready = find_passes (λ (z : Member Tree). (z.standing ≡ Standing.Ready) × (z.rollbacks ≡ 0)) i pool.members r.ready m is in
-        let clash : false ≡ true = sym (ap (λ (z : Standing). is_busy (record m { standing = z })) ready.0) ∙ e in cc
+        let ready = find_passes (λ (z : Member Tree). (z.standing ≡ MemberStanding.Ready) × (z.rollbacks ≡ 0)) i pool.members r.ready m is in
+        let clash : false ≡ true = sym (ap (λ (z : MemberStanding). is_busy (record m { standing = z })) ready.0) ∙ e in cc
 
 -- a base without notes
 
@@ -86,7 +86,7 @@ module _ (parts : Parts) (fresh : parts.entries ≡ []) (base : All (λ (e : Ent
   }
 
 pub sound-opened : (program : Tree) (signature : Signature) (limits : Limits) (base : List Entry) (cells : List (Cell Val)) (pool : Roster Tree) (r : Replayed) (types : StoreTyping)
-    → replay program base ≡ Some r → IsTyped signature types r.state → AreOpened signature types cells r.state → HasMembersOf r pool → AreReady pool
+    → replay program base ≡ Some r → IsTyped signature types r.state → AreOpened signature types cells r.state → HasMembersOf r pool → AreAllReady pool
     → All (λ (e : Entry). is_note e.kind ≡ false) base → 1 ≤ limits.slice
     → Sound (opened_state program signature limits base cells pool r.state.output r.state.next)
 sound-opened program signature limits base cells pool r types replayed typed o m ready ordinary slice =

@@ -9,11 +9,11 @@ use Rattle.ame_pool.specs.Members.{IsRising, find, is_busy}
 use Rattle.ame_pool.specs.Roster.{Roster}
 use Rattle.ame_pool.specs.Waking.{has, stirred_by}
 use Rattle.ame_pool.specs.declared.member.Member.{Member}
-use Rattle.ame_pool.specs.declared.member.Standing.{Standing}
+use Rattle.ame_pool.specs.declared.member.MemberStanding.{MemberStanding}
 use Rattle.ame_pool.proofs.MemberLemmas.{find_map, found_altered, found_except}
 use Rattle.ame_protocol.specs.Engine.Events.{brought_home, with_newcomers, woken_for}
 use Rattle.ame_protocol.specs.Engine.Tasks.{is_busy_as, is_noted_for}
-use Rattle.ame_protocol.specs.declared.types.Reason.{Reason}
+use Rattle.ame_protocol.specs.declared.types.UndoReason.{UndoReason}
 use Rattle.ame_protocol.proofs.Engine.GrowthLemmas.{IsFreeFrom, found-new, joined-free}
 use Rattle.ame_protocol.proofs.Row.CellLemmas.{which}
 use Rattle.ame_protocol.specs.Event.Rollbacks.{IsGoodPool}
@@ -28,10 +28,10 @@ good-newcomers next (body ∷ bodies) pool free good =
     good-newcomers (next + 1) bodies (joined (newcomer next body false) pool) (joined-free next body pool free)
     (good-joined next body false pool (free next (omega arith)) good)
 
-pub good-brought : (reason : Reason) (number : ℕ) (pool : Roster Tree) → IsGoodPool pool → IsGoodPool (brought_home reason number pool)
-good-brought Reason.RolledBack number pool good = good-home number true pool good
-good-brought Reason.Noted number pool good = good-parked number pool good
-good-brought Reason.Stopped number pool good = good-home number false pool good
+pub good-brought : (reason : UndoReason) (number : ℕ) (pool : Roster Tree) → IsGoodPool pool → IsGoodPool (brought_home reason number pool)
+good-brought UndoReason.RolledBack number pool good = good-home number true pool good
+good-brought UndoReason.Noted number pool good = good-parked number pool good
+good-brought UndoReason.Stopped number pool good = good-home number false pool good
 
 -- Busy members
 
@@ -80,26 +80,26 @@ leaves-parked number pool noted =
     leaves-altered number (option_map at_rest) pool (parked number pool) (found_altered number at_rest (λ _. refl) pool.members)
     (rests (find number pool.members) noted)
   where
-    by : (m : Member Tree) (x : Standing) → IsTrue (is_noted (record m { standing = x })) → IsTrue (is_busy (at_rest (record m { standing = x }))) → ⊥
-    by m Standing.Ready n h = let clash : false ≡ true = n in cc
-    by m (Standing.Busy None) n h = let clash : false ≡ true = n in cc
-    by m (Standing.Busy (Some w)) n h = touched w.touched h
+    by : (m : Member Tree) (x : MemberStanding) → IsTrue (is_noted (record m { standing = x })) → IsTrue (is_busy (at_rest (record m { standing = x }))) → ⊥
+    by m MemberStanding.Ready n h = let clash : false ≡ true = n in cc
+    by m (MemberStanding.Busy None) n h = let clash : false ≡ true = n in cc
+    by m (MemberStanding.Busy (Some w)) n h = touched w.touched h
       where
-        touched : (b : Bool) → IsTrue (is_busy (record m { standing = cond b Standing.Ready (Standing.Parked w.locs) })) → ⊥
+        touched : (b : Bool) → IsTrue (is_busy (record m { standing = cond b MemberStanding.Ready (MemberStanding.Parked w.locs) })) → ⊥
         touched true e = let clash : false ≡ true = e in cc
         touched false e = let clash : false ≡ true = e in cc
-    by m (Standing.Parked locs) n h = let clash : false ≡ true = n in cc
+    by m (MemberStanding.Parked locs) n h = let clash : false ≡ true = n in cc
 
     rests : (o : Option (Member Tree)) → IsSomeAnd o (λ m. IsTrue (is_noted m)) → IsSomeAnd (option_map at_rest o) (λ m. IsTrue (is_busy m)) → ⊥
     rests None n h = h
     rests (Some m) n h = by m m.standing n h
 
 -- a member goes home, by the reason
-pub leaves-brought : (reason : Reason) (number : ℕ) (pool : Roster Tree) → IsAt (is_busy_as (is_noted_for reason)) number pool
+pub leaves-brought : (reason : UndoReason) (number : ℕ) (pool : Roster Tree) → IsAt (is_busy_as (is_noted_for reason)) number pool
     → LeavesBusy pool (brought_home reason number pool) number
-leaves-brought Reason.RolledBack number pool busy = leaves-home number true pool
-leaves-brought Reason.Noted number pool busy = leaves-parked number pool busy
-leaves-brought Reason.Stopped number pool busy = leaves-home number false pool
+leaves-brought UndoReason.RolledBack number pool busy = leaves-home number true pool
+leaves-brought UndoReason.Noted number pool busy = leaves-parked number pool busy
+leaves-brought UndoReason.Stopped number pool busy = leaves-home number false pool
 
 -- who is woken isn't busy then, and who comes in isn't
 pub busy-woken : (ls : List ℕ) (pool : Roster Tree) (i : ℕ) → IsAt is_busy i (woken_for ls pool) → IsAt is_busy i pool
@@ -109,13 +109,13 @@ busy-woken (l ∷ ls) pool i h =
     (subst (λ (o : Option (Member Tree)). IsSomeAnd o (λ m. IsTrue (is_busy m))) (find_map (stirred_by l) (λ _. refl) i pool.members)
     (busy-woken ls (woken l pool) i h))
   where
-    was : (m : Member Tree) (x : Standing) → IsTrue (is_busy (stirred_by l (record m { standing = x }))) → IsTrue (is_busy (record m { standing = x }))
-    was m Standing.Ready e = e
-    was m (Standing.Busy None) e = e
-    was m (Standing.Busy (Some w)) e = refl
-    was m (Standing.Parked locs) e = parked-by (has l locs) e
+    was : (m : Member Tree) (x : MemberStanding) → IsTrue (is_busy (stirred_by l (record m { standing = x }))) → IsTrue (is_busy (record m { standing = x }))
+    was m MemberStanding.Ready e = e
+    was m (MemberStanding.Busy None) e = e
+    was m (MemberStanding.Busy (Some w)) e = refl
+    was m (MemberStanding.Parked locs) e = parked-by (has l locs) e
       where
-        parked-by : (b : Bool) → IsTrue (is_busy (record m { standing = cond b Standing.Ready (Standing.Parked locs) })) → false ≡ true
+        parked-by : (b : Bool) → IsTrue (is_busy (record m { standing = cond b MemberStanding.Ready (MemberStanding.Parked locs) })) → false ≡ true
         parked-by true e = e
         parked-by false e = e
 
@@ -152,10 +152,10 @@ busy-held number pool i apart h = busy-found pool (held number pool) i ((found_a
 pub running-busy : (number : ℕ) (pool : Roster Tree) → IsAt (is_busy_as false) number pool → IsAt is_busy number pool
 running-busy number pool h = by (find number pool.members) h
   where
-    was : (m : Member Tree) (x : Standing) → IsTrue (is_running (record m { standing = x })) → IsTrue (is_busy (record m { standing = x }))
-    was m Standing.Ready e = e
-    was m (Standing.Busy w) e = refl
-    was m (Standing.Parked locs) e = e
+    was : (m : Member Tree) (x : MemberStanding) → IsTrue (is_running (record m { standing = x })) → IsTrue (is_busy (record m { standing = x }))
+    was m MemberStanding.Ready e = e
+    was m (MemberStanding.Busy w) e = refl
+    was m (MemberStanding.Parked locs) e = e
 
     by : (o : Option (Member Tree)) → IsSomeAnd o (λ m. IsTrue (is_busy_as false m)) → IsSomeAnd o (λ m. IsTrue (is_busy m))
     by None e = e

@@ -10,11 +10,11 @@ use Rattle.ame_protocol.specs.Event.Counting.{Counted}
 use Rattle.ame_protocol.specs.Event.Event.{Event, Find, Reverse}
 use Rattle.ame_protocol.specs.Event.Runs.{Follows, is_back}
 use Rattle.ame_protocol.specs.Event.Sound.{Sound}
-use Rattle.ame_protocol.specs.Event.State.{State}
+use Rattle.ame_protocol.specs.Event.EngineState.{EngineState}
 use Rattle.ame_protocol.proofs.Event.CountLemmas.{conflict-refused, invalid-refused, undone-refused}
 use Rattle.ame_protocol.proofs.Event.RunLemmas.{sound-along}
 
-one-refused : (e : Event) (s : State) → refusals (counted_by e s) ≡ refusals s.counters + cond (is_back e) 1 0
+one-refused : (e : Event) (s : EngineState) → refusals (counted_by e s) ≡ refusals s.counters + cond (is_back e) 1 0
 one-refused (Event.Begin seat number) s = omega arith
 one-refused (Event.Read seat l) s = omega arith
 one-refused (Event.Write seat l v) s = omega arith
@@ -36,8 +36,8 @@ one-refused (Event.Cut seat attempt steps place) s = omega arith
 one-refused (Event.Tall seat attempt steps place) s = omega arith
 one-refused (Event.Halt why) s = omega arith
 
-pub run-refused : (es : List Event) (s end : State) → Follows s es end → refusals end.counters ≡ refusals s.counters + count_by is_back es
-run-refused [] s end run = let same = ap (λ (x : State). refusals x.counters) run in omega (arith, same)
+pub run-refused : (es : List Event) (s end : EngineState) → Follows s es end → refusals end.counters ≡ refusals s.counters + count_by is_back es
+run-refused [] s end run = let same = ap (λ (x : EngineState). refusals x.counters) run in omega (arith, same)
 run-refused (e ∷ es) s end run =
     let rest = run-refused es (after e s) end run.1 in
     let first = one-refused e s in
@@ -45,7 +45,7 @@ run-refused (e ∷ es) s end run =
     omega (arith, rest, first, more)
 
 -- So a run from a sound state turns seats back at most eight times for each member that there ever was, and for each entry.
-pub run-backs : (es : List Event) (s end : State) → Follows s es end → Sound s → refusals s.counters + count_by is_back es
+pub run-backs : (es : List Event) (s end : EngineState) → Follows s es end → Sound s → refusals s.counters + count_by is_back es
     ≤ max_rollbacks * (end.parts.next + length end.parts.entries)
 run-backs es s end run h =
     let later = sound-along es s end run h in

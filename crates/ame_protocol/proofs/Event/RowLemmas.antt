@@ -20,7 +20,7 @@ use Rattle.ame_protocol.specs.Engine.Tasks.{MeetsTask, RunsProtected, is_busy_as
 use Rattle.ame_protocol.specs.Row.Waiting.{read_places}
 use Rattle.ame_protocol.specs.Waits.Noted.{has_noted, stuck_entry}
 use Rattle.ame_protocol.specs.declared.types.Attempt.{Attempt}
-use Rattle.ame_protocol.specs.declared.types.Reason.{Reason}
+use Rattle.ame_protocol.specs.declared.types.UndoReason.{UndoReason}
 use Rattle.ame_protocol.specs.declared.types.Task.{Task}
 use Rattle.ame_protocol.proofs.Engine.AloneEvents.{checked_alone, ended-alone, left-alone}
 use Rattle.ame_protocol.proofs.Engine.AloneLemmas.{no-other-owner}
@@ -51,12 +51,12 @@ use Rattle.ame_protocol.specs.Event.After.{after, counted_by, counted_find}
 use Rattle.ame_protocol.specs.Event.Event.{Event, Find, Reverse}
 use Rattle.ame_protocol.specs.Event.May.{HasRunTo, HasATurn, IsReversed, ReadsAreValid, WakesWatchers}
 use Rattle.ame_protocol.specs.Event.Sound.{Sound}
-use Rattle.ame_protocol.specs.Event.State.{State}
+use Rattle.ame_protocol.specs.Event.EngineState.{EngineState}
 use Rattle.ame_protocol.proofs.Event.ActLemmas.{not-stopped}
 use Rattle.ame_protocol.proofs.Event.PoolLemmas.{LeavesBusy, busy-newcomers, busy-noted, busy-woken, good-newcomers, leaves-exchanged, leaves-removed, running-busy}
 use Rattle.ame_protocol.proofs.Event.SeatedLemmas.{seated-home, seated-on}
 
-module _ (s : State) (h : Sound s) (g : HasATurn s) where
+module _ (s : EngineState) (h : Sound s) (g : HasATurn s) where
   abbrev parts : Parts
   parts = s.parts
 
@@ -156,11 +156,11 @@ module _ (s : State) (h : Sound s) (g : HasATurn s) where
       bounds = back-bounded parts h.stands s.stop g.going still s.counters (counted_by (Event.TurnBack seat attempt why) s) h.bounds
           (one-refused why) seat attempt
           task (may-turn why reversed) (crowded why reversed);
-      waiting = retask-waiting parts h.stands seat attempt task h.waiting (Task.Undoing attempt Reason.RolledBack);
+      waiting = retask-waiting parts h.stands seat attempt task h.waiting (Task.Undoing attempt UndoReason.RolledBack);
       once = once-on parts (has_turned_back seat attempt parts) refl (λ i some. some) h.once;
       caused = goes-on (has_turned_back seat attempt parts) (record { program = refl; base = refl; entries = refl });
       counters = one-turned why;
-      seated = seated-on parts (has_turned_back seat attempt parts) seat (Task.Undoing attempt Reason.RolledBack) refl within h.seated (sym had) (λ i b. b);
+      seated = seated-on parts (has_turned_back seat attempt parts) seat (Task.Undoing attempt UndoReason.RolledBack) refl within h.seated (sym had) (λ i b. b);
     }
 
     -- Ends, leaves and notes
@@ -235,14 +235,14 @@ module _ (s : State) (h : Sound s) (g : HasATurn s) where
       pub sound-noted : is_false_condition (focus place.term) ≡ true → Sound (after (Event.Note seat attempt steps place) s)
       sound-noted fails =
           let new = has_noted seat attempt steps place parts in
-          let next : Task = Task.Undoing (record attempt { logged = true }) Reason.Noted in
+          let next : Task = Task.Undoing (record attempt { logged = true }) UndoReason.Noted in
           let watched = read_places (row_at parts.memory.rows seat).reads in record {
             stopped = h.stopped;
             stands = noted_stands parts h.stands seat attempt task g.left steps place r.used valid fails;
             pool = good-noted attempt.tried.number watched parts.pool h.pool;
             alone = noted-alone parts h.stands h.alone seat attempt task steps place;
             lone = lone-left parts new h.stands s.counters (one_counted Counted.Block s.counters) h.lone seat within refl refl refl next refl
-                (λ t e. let clash : Task.Undoing (record attempt { logged = true }) Reason.Noted ≡ Task.Running t = e in cc);
+                (λ t e. let clash : Task.Undoing (record attempt { logged = true }) UndoReason.Noted ≡ Task.Running t = e in cc);
             bounds = noted-bounded parts h.stands s.stop g.going still s.counters (one_counted Counted.Block s.counters) h.bounds refl seat attempt
                 task h.pool.few
                 steps place r.used r.more;

@@ -13,15 +13,15 @@ use Rattle.ame_protocol.specs.Event.Event.{Event}
 use Rattle.ame_protocol.specs.Event.May.{May}
 use Rattle.ame_protocol.specs.Event.Runs.{Follows, entries_along, entries_told}
 use Rattle.ame_protocol.specs.Event.Sound.{Sound}
-use Rattle.ame_protocol.specs.Event.State.{State}
+use Rattle.ame_protocol.specs.Event.EngineState.{EngineState}
 use Rattle.ame_protocol.proofs.Event.ActLemmas.{not-stopped}
 use Rattle.ame_protocol.proofs.Event.SoundLemmas.{sound-after}
 
-pub sound-along : (es : List Event) (s end : State) → Follows s es end → Sound s → Sound end
+pub sound-along : (es : List Event) (s end : EngineState) → Follows s es end → Sound s → Sound end
 sound-along [] s end run h = subst Sound (sym run) h
 sound-along (e ∷ es) s end run h = sound-along es (after e s) end run.1 (sound-after e s run.0 h)
 
-pub follows-more : (es : List Event) (s end : State) (e : Event) → Follows s es end → May e end → Follows s (es ++ e ∷ []) (after e end)
+pub follows-more : (es : List Event) (s end : EngineState) (e : Event) → Follows s es end → May e end → Follows s (es ++ e ∷ []) (after e end)
 follows-more [] s end e run may = (subst (May e) run may, ap (after e) run)
 follows-more (first ∷ es) s end e run may = (run.0, follows-more es (after first s) end e run.1 may)
 
@@ -34,7 +34,7 @@ undo-limits parts = by parts.stopped
     by true = refl
     by false = refl
 
-pub limits-stay : (e : Event) (s : State) → (after e s).parts.limits ≡ s.parts.limits
+pub limits-stay : (e : Event) (s : EngineState) → (after e s).parts.limits ≡ s.parts.limits
 limits-stay (Event.Begin seat number) s = refl
 limits-stay (Event.Read seat l) s = refl
 limits-stay (Event.Write seat l v) s = refl
@@ -66,7 +66,7 @@ undo-tells parts = by parts.stopped
     by true = refl
     by false = refl
 
-event-tells : (e : Event) (s : State) → (after e s).parts.entries ≡ s.parts.entries ++ entries_told e
+event-tells : (e : Event) (s : EngineState) → (after e s).parts.entries ≡ s.parts.entries ++ entries_told e
 event-tells (Event.Begin seat number) s = sym (append-nil s.parts.entries)
 event-tells (Event.Read seat l) s = sym (append-nil s.parts.entries)
 event-tells (Event.Write seat l v) s = sym (append-nil s.parts.entries)
@@ -89,8 +89,8 @@ event-tells (Event.Cut seat attempt steps place) s = refl
 event-tells (Event.Tall seat attempt steps place) s = refl
 event-tells (Event.Halt why) s = sym (append-nil s.parts.entries)
 
-pub run-tells : (es : List Event) (s end : State) → Follows s es end → end.parts.entries ≡ s.parts.entries ++ entries_along es
-run-tells [] s end run = ap (λ (x : State). x.parts.entries) run ∙ sym (append-nil s.parts.entries)
+pub run-tells : (es : List Event) (s end : EngineState) → Follows s es end → end.parts.entries ≡ s.parts.entries ++ entries_along es
+run-tells [] s end run = ap (λ (x : EngineState). x.parts.entries) run ∙ sym (append-nil s.parts.entries)
 run-tells (e ∷ es) s end run =
     run-tells es (after e s) end run.1 ∙ ap (λ (xs : List Entry). xs ++ entries_along es) (event-tells e s)
     ∙ append_assoc s.parts.entries (entries_told e) (entries_along es)
@@ -98,7 +98,7 @@ run-tells (e ∷ es) s end run =
 -- The turns of a run
 
 -- a kept stop stays kept
-stop-stays : (e : Event) (s : State) → (after e s).stop ≡ None → s.stop ≡ None
+stop-stays : (e : Event) (s : EngineState) → (after e s).stop ≡ None → s.stop ≡ None
 stop-stays (Event.Begin seat number) s none = none
 stop-stays (Event.Read seat l) s none = none
 stop-stays (Event.Write seat l v) s none = none
@@ -119,7 +119,7 @@ stop-stays (Event.Halt why) s none = absurd (cc)
 undo-turns : (parts : Parts) → parts.stopped ≡ false → (undo_turn parts).turns ≡ parts.turns + 1
 undo-turns parts going = ap (λ (b : Bool). (if b then parts else one_turn parts).turns) going
 
-event-turns : (e : Event) (s : State) → Sound s → (after e s).stop ≡ None → (after e s).parts.turns ≡ s.parts.turns + 1
+event-turns : (e : Event) (s : EngineState) → Sound s → (after e s).stop ≡ None → (after e s).parts.turns ≡ s.parts.turns + 1
 event-turns (Event.Begin seat number) s h none = refl
 event-turns (Event.Read seat l) s h none = refl
 event-turns (Event.Write seat l v) s h none = refl
@@ -142,13 +142,13 @@ event-turns (Event.Cut seat attempt steps place) s h none = absurd (cc)
 event-turns (Event.Tall seat attempt steps place) s h none = absurd (cc)
 event-turns (Event.Halt why) s h none = absurd (cc)
 
-run-going : (es : List Event) (s end : State) → Follows s es end → end.stop ≡ None → s.stop ≡ None
-run-going [] s end run none = ap (λ (x : State). x.stop) (sym run) ∙ none
+run-going : (es : List Event) (s end : EngineState) → Follows s es end → end.stop ≡ None → s.stop ≡ None
+run-going [] s end run none = ap (λ (x : EngineState). x.stop) (sym run) ∙ none
 run-going (e ∷ es) s end run none = stop-stays e s (run-going es (after e s) end run.1 none)
 
 -- while no stop is kept each event is a turn
-pub run-counts : (es : List Event) (s end : State) → Follows s es end → Sound s → end.stop ≡ None → end.parts.turns ≡ s.parts.turns + length es
-run-counts [] s end run h none = let same = ap (λ (x : State). x.parts.turns) run in omega (arith, same)
+pub run-counts : (es : List Event) (s end : EngineState) → Follows s es end → Sound s → end.stop ≡ None → end.parts.turns ≡ s.parts.turns + length es
+run-counts [] s end run h none = let same = ap (λ (x : EngineState). x.parts.turns) run in omega (arith, same)
 run-counts (e ∷ es) s end run h none =
     let rest = run-counts es (after e s) end run.1 (sound-after e s run.0 h) none in
     let one = event-turns e s h (run-going es (after e s) end run.1 none) in
@@ -162,7 +162,7 @@ undo-few parts = by parts.stopped
     by true = omega arith
     by false = omega arith
 
-event-few : (e : Event) (s : State) → (after e s).parts.turns ≤ s.parts.turns + 1
+event-few : (e : Event) (s : EngineState) → (after e s).parts.turns ≤ s.parts.turns + 1
 event-few (Event.Begin seat number) s = omega arith
 event-few (Event.Read seat l) s = omega arith
 event-few (Event.Write seat l v) s = omega arith
@@ -185,8 +185,8 @@ event-few (Event.Cut seat attempt steps place) s = omega arith
 event-few (Event.Tall seat attempt steps place) s = omega arith
 event-few (Event.Halt why) s = omega arith
 
-pub run-few : (es : List Event) (s end : State) → Follows s es end → end.parts.turns ≤ s.parts.turns + length es
-run-few [] s end run = let same = ap (λ (x : State). x.parts.turns) run in omega (arith, same)
+pub run-few : (es : List Event) (s end : EngineState) → Follows s es end → end.parts.turns ≤ s.parts.turns + length es
+run-few [] s end run = let same = ap (λ (x : EngineState). x.parts.turns) run in omega (arith, same)
 run-few (e ∷ es) s end run =
     let rest = run-few es (after e s) end run.1 in
     let one = event-few e s in

@@ -22,13 +22,13 @@ use Rattle.ame_protocol.specs.Event.After.{after}
 use Rattle.ame_protocol.specs.Event.Event.{Event}
 use Rattle.ame_protocol.specs.Event.May.{May}
 use Rattle.ame_protocol.specs.Event.Sound.{Sound}
-use Rattle.ame_protocol.specs.Event.State.{State, started_state}
+use Rattle.ame_protocol.specs.Event.EngineState.{EngineState, started_state}
 use Rattle.ame_protocol.proofs.Event.ActLemmas.{sound-allocated, sound-begun, sound-read, sound-written}
 use Rattle.ame_protocol.proofs.Event.RowLemmas.{sound-checked, sound-ended, sound-left, sound-noted, sound-turned}
 use Rattle.ame_protocol.proofs.Event.StopLemmas.{sound-cut, sound-halted, sound-tall}
 use Rattle.ame_protocol.proofs.Event.UndoLemmas.{sound-gone, sound-undone}
 use Rattle.ame_protocol.proofs.Event.VisitLemmas.{sound-refused, sound-visited}
-use Rattle.ame_pool.specs.declared.member.Standing.{Standing}
+use Rattle.ame_pool.specs.declared.member.MemberStanding.{MemberStanding}
 use Rattle.ame_pool.proofs.MemberLemmas.{find_passes}
 use Rattle.ame_rows.specs.MemoryView.{row_at, no_log}
 use Rattle.ame_protocol.specs.Engine.Parts.{Parts, task_at}
@@ -53,10 +53,10 @@ module _ (parts : Parts) (stands : Simulates parts) (pool : IsGoodPool parts.poo
   none-busy : (i : ℕ) → IsAt is_busy i parts.pool → ⊥
   none-busy i h = by (find i parts.pool.members) refl h
     where
-      calm : (m : Member Tree) (x : Standing) → IsTrue (is_ready (record m { standing = x })) → IsTrue (is_busy (record m { standing = x })) → ⊥
-      calm m Standing.Ready r b = let clash : false ≡ true = b in cc
-      calm m (Standing.Busy w) r b = let clash : false ≡ true = r in cc
-      calm m (Standing.Parked locs) r b = let clash : false ≡ true = r in cc
+      calm : (m : Member Tree) (x : MemberStanding) → IsTrue (is_ready (record m { standing = x })) → IsTrue (is_busy (record m { standing = x })) → ⊥
+      calm m MemberStanding.Ready r b = let clash : false ≡ true = b in cc
+      calm m (MemberStanding.Busy w) r b = let clash : false ≡ true = r in cc
+      calm m (MemberStanding.Parked locs) r b = let clash : false ≡ true = r in cc
 
       by : (o : Option (Member Tree)) → find i parts.pool.members ≡ o → IsSomeAnd o (λ m. IsTrue (is_busy m)) → ⊥
       by None e b = b
@@ -65,10 +65,10 @@ module _ (parts : Parts) (stands : Simulates parts) (pool : IsGoodPool parts.poo
   none-waits : (i : ℕ) → watched_by i parts.pool ≡ None
   none-waits i = by (find i parts.pool.members) refl
     where
-      calm : (m : Member Tree) (x : Standing) → IsTrue (is_ready (record m { standing = x })) → watch_list x ≡ None
-      calm m Standing.Ready r = refl
-      calm m (Standing.Busy w) r = absurd (let clash : false ≡ true = r in cc)
-      calm m (Standing.Parked locs) r = absurd (let clash : false ≡ true = r in cc)
+      calm : (m : Member Tree) (x : MemberStanding) → IsTrue (is_ready (record m { standing = x })) → watch_list x ≡ None
+      calm m MemberStanding.Ready r = refl
+      calm m (MemberStanding.Busy w) r = absurd (let clash : false ≡ true = r in cc)
+      calm m (MemberStanding.Parked locs) r = absurd (let clash : false ≡ true = r in cc)
 
       by : (o : Option (Member Tree)) → find i parts.pool.members ≡ o → option_and_then (λ (m : Member Tree). watch_list m.standing) o ≡ None
       by None e = refl
@@ -100,7 +100,7 @@ sound-start program signature limits accepted slice =
     }) (start-once program signature limits 0) slice (task-idle limits.seats) (row-clear limits.seats)
     (All-cons (λ (m : Member Tree). IsTrue (is_ready m)) (newcomer 0 program false) [] refl (All-nil (λ (m : Member Tree). IsTrue (is_ready m)))) refl refl refl refl
 
-pub sound-after : (e : Event) (s : State) → May e s → Sound s → Sound (after e s)
+pub sound-after : (e : Event) (s : EngineState) → May e s → Sound s → Sound (after e s)
 sound-after (Event.Begin seat number) s m h = sound-begun s h m.0 seat number m.1
 sound-after (Event.Read seat l) s m h = sound-read s h m.0 seat l m.1 m.2
 sound-after (Event.Write seat l v) s m h = sound-written s h m.0 seat l v m.1 m.2

@@ -31,11 +31,11 @@ use Rattle.ame_protocol.specs.Event.After.{after}
 use Rattle.ame_protocol.specs.Event.Event.{Event}
 use Rattle.ame_protocol.specs.Event.May.{MayHalt, MayNote}
 use Rattle.ame_protocol.specs.Event.Sound.{Sound}
-use Rattle.ame_protocol.specs.Event.State.{State}
+use Rattle.ame_protocol.specs.Event.EngineState.{EngineState}
 use Rattle.ame_protocol.proofs.Event.ActLemmas.{not-stopped}
 use Rattle.ame_protocol.proofs.Event.SeatedLemmas.{seated-on, seated-still}
 
-module _ (s : State) (h : Sound s) (going : s.stop ≡ None) where
+module _ (s : EngineState) (h : Sound s) (going : s.stop ≡ None) where
   abbrev parts : Parts
   parts = s.parts
 
@@ -171,7 +171,7 @@ certificates-stopped Stop.NoMemory x = refl
 certificates-stopped Stop.WriteFault x = refl
 certificates-stopped (Stop.DeviceFault device) x = refl
 
-pub sound-halted : (s : State) → Sound s → (why : Stop) → MayHalt s why → Sound (after (Event.Halt why) s)
+pub sound-halted : (s : EngineState) → Sound s → (why : Stop) → MayHalt s why → Sound (after (Event.Halt why) s)
 sound-halted s h why m = record {
   stopped = refl;
   stands = stopped_stands s.parts h.stands;

@@ -14,7 +14,7 @@ use Rattle.ame_protocol.specs.Engine.Tasks.{MeetsTask, Undoes, Visits}
 use Rattle.ame_protocol.specs.Waits.Once.{AreNotedOnce}
 use Rattle.ame_protocol.specs.Waits.Waiting.{AreWaiting}
 use Rattle.ame_protocol.specs.declared.types.Attempt.{Attempt}
-use Rattle.ame_protocol.specs.declared.types.Reason.{Reason}
+use Rattle.ame_protocol.specs.declared.types.UndoReason.{UndoReason}
 use Rattle.ame_protocol.specs.declared.types.Task.{Task}
 use Rattle.ame_protocol.proofs.Engine.AloneEvents.{home-alone, more-alone}
 use Rattle.ame_protocol.proofs.Engine.HomeLemmas.{free_home, running_home, running_more, undoing_home, undoing_more}
@@ -36,7 +36,7 @@ use Rattle.ame_protocol.specs.Event.Event.{Event}
 use Rattle.ame_protocol.specs.Event.May.{MayUndo}
 use Rattle.ame_protocol.specs.Event.Seated.{AreSeated}
 use Rattle.ame_protocol.specs.Event.Sound.{Sound}
-use Rattle.ame_protocol.specs.Event.State.{State}
+use Rattle.ame_protocol.specs.Event.EngineState.{EngineState}
 use Rattle.ame_protocol.proofs.Event.PoolLemmas.{LeavesBusy, good-brought, leaves-brought, leaves-home}
 use Rattle.ame_protocol.proofs.Event.SeatedLemmas.{seated-home, seated-on}
 
@@ -48,7 +48,7 @@ by-turn P parts stays turns = by parts.stopped
     by true = stays
     by false = turns
 
-undo-counts : (s : State) → Sound s → (next : Parts) → next.stopped ≡ s.parts.stopped → next.turns ≡ s.parts.turns
+undo-counts : (s : EngineState) → Sound s → (next : Parts) → next.stopped ≡ s.parts.stopped → next.turns ≡ s.parts.turns
     → CountsTurns (undo_turn next).turns (one_undone s.parts.stopped s.counters)
 undo-counts s h next same turns =
     subst (λ (b : Bool). CountsTurns (undo_turn next).turns (one_undone b s.counters)) same (by next.stopped)
@@ -64,14 +64,14 @@ undo-counts s h next same turns =
 undo-rests : (next : Parts) → next.stopped ≡ true → (undo_turn next).turns ≡ next.turns
 undo-rests next stopped = ap (λ (b : Bool). (if b then next else one_turn next).turns) stopped
 
-module _ (s : State) (h : Sound s) (seat : ℕ) (attempt : Attempt) (m : MayUndo s seat attempt) where
+module _ (s : EngineState) (h : Sound s) (seat : ℕ) (attempt : Attempt) (m : MayUndo s seat attempt) where
   abbrev parts : Parts
   parts = s.parts
 
   abbrev task : Task
   task = task_at parts.tasks seat
 
-  abbrev reason : Reason
+  abbrev reason : UndoReason
   reason = reason_to_undo task
 
   abbrev undos : List (Undo Val)

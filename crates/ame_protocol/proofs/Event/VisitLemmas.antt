@@ -32,12 +32,12 @@ use Rattle.ame_protocol.specs.Event.After.{after}
 use Rattle.ame_protocol.specs.Event.Event.{Event}
 use Rattle.ame_protocol.specs.Event.May.{HasATurn, MayVisit}
 use Rattle.ame_protocol.specs.Event.Sound.{Sound}
-use Rattle.ame_protocol.specs.Event.State.{State}
+use Rattle.ame_protocol.specs.Event.EngineState.{EngineState}
 use Rattle.ame_protocol.proofs.Event.ActLemmas.{not-stopped}
 use Rattle.ame_protocol.proofs.Event.PoolLemmas.{LeavesBusy, busy-newcomers, good-newcomers, leaves-exchanged, leaves-home}
 use Rattle.ame_protocol.proofs.Event.SeatedLemmas.{seated-home}
 
-module _ (s : State) (h : Sound s) (g : HasATurn s) (seat : ℕ) (attempt : Attempt) (task : task_at s.parts.tasks seat ≡ Task.Free attempt) where
+module _ (s : EngineState) (h : Sound s) (g : HasATurn s) (seat : ℕ) (attempt : Attempt) (task : task_at s.parts.tasks seat ≡ Task.Free attempt) where
   abbrev parts : Parts
   parts = s.parts
 

@@ -12,7 +12,7 @@ use Rattle.ame_rows.specs.Valid.{IsValidAt}
 use Rattle.ame_machine.specs.Run.Local.{LocalState}
 use Rattle.ame_protocol.specs.Row.Heap.{Heap, cell_at, IsCell, IsLive}
 use Rattle.ame_protocol.specs.Row.SeatRun.{SeatRun, IsValidNote, AreValid}
-use Rattle.ame_protocol.specs.Row.Given.{IsHeld, IsLogged, IsMadeCell, IsGiven}
+use Rattle.ame_protocol.specs.Row.Given.{IsHeld, IsLogged, IsOwnNewCell, IsGiven}
 use Rattle.ame_protocol.specs.Row.UndoLog.{IsUndo, IsUndoLog}
 use Rattle.ame_protocol.specs.Row.Owes.{IsNote, Owes}
 use Rattle.ame_protocol.specs.Row.Framed.{IsChangedByOthers, IsFramedAt, IsFramed}
@@ -67,7 +67,7 @@ module _ (seat : ℕ) (old new : Heap) (f : IsFramed seat old new) where
         ap new.committed (sym h.place) ∙ back.1 ∙ ap old.committed h.place ∙ h.given back.0;
   }
 
-  made-kept : (e : ℕ × Option Val) → IsMadeCell old seat e → IsMadeCell new seat e
+  made-kept : (e : ℕ × Option Val) → IsOwnNewCell old seat e → IsOwnNewCell new seat e
   made-kept e h =
       let same = (own-stays e.0 h.own).0 in
       record { own = subst (IsOwnedBy seat) (sym same) h.own; dead = subst IsDead (sym same) h.dead; unset = h.unset }
@@ -80,7 +80,7 @@ module _ (seat : ℕ) (old new : Heap) (f : IsFramed seat old new) where
   given-kept reads p notes h = record {
     seen = each (IsLogged old seat reads) (IsLogged new seat reads) (logged-kept reads notes) p.seen h.seen;
     own = h.own;
-    made = each (IsMadeCell old seat) (IsMadeCell new seat) made-kept p.made h.made;
+    made = each (IsOwnNewCell old seat) (IsOwnNewCell new seat) made-kept p.made h.made;
     sets = λ l. held-kept l (at p.sets l) (h.sets l);
   }
 

@@ -26,7 +26,7 @@ use Rattle.ame_rows.specs.Valid.{IsValidAt}
 use Rattle.ame_machine.specs.Run.Local.{LocalState, begun_with, took, taken_where, set_at, made_at, fed, refilled_in, local}
 use Rattle.ame_protocol.specs.Row.Heap.{Heap, cell_at, IsCell, IsCommitted}
 use Rattle.ame_protocol.specs.Row.SeatRun.{SeatRun, HasUsed, IsSomewhere, ComesTo, IsValidNote, AreValid}
-use Rattle.ame_protocol.specs.Row.Given.{IsHeld, IsLogged, IsMadeCell, IsGiven}
+use Rattle.ame_protocol.specs.Row.Given.{IsHeld, IsLogged, IsOwnNewCell, IsGiven}
 use Rattle.ame_protocol.specs.Row.UndoLog.{undo_place, IsUndo, IsUndoLog}
 use Rattle.ame_protocol.specs.Row.Owes.{IsNote, Owes}
 use Rattle.ame_protocol.specs.Row.Changed.{BecomesAt, KeepsCommitted}
@@ -39,7 +39,7 @@ given-there : (heap : Heap) (seat : ℕ) (reads : List ReadNote) (p q : LocalSta
 given-there heap seat reads p q same h = record {
   seen = subst (AllByRecursion (IsLogged heap seat reads)) same.seen h.seen;
   own = subst (AllByRecursion (λ (e : Val × Val). e.0 ≡ e.1)) same.own h.own;
-  made = subst (AllByRecursion (IsMadeCell heap seat)) same.made h.made;
+  made = subst (AllByRecursion (IsOwnNewCell heap seat)) same.made h.made;
   sets = subst (λ (sets : List (ℕ × Val)). (l : ℕ) → IsHeld seat (cell_at heap l) (at sets l)) same.sets h.sets;
 }
 
@@ -187,10 +187,10 @@ module _ (old new : Heap) (seat l : ℕ) (cell : Cell Val) (b : BecomesAt old ne
     given = λ v. k e.0 ∙ h.given (note-back old new seat l cell b back h.note (All-contains (IsNote old) reads h.note notes h.logged) v);
   }
 
-  made-on : (e : ℕ × Option Val) → IsMadeCell old seat e → IsMadeCell new seat e
+  made-on : (e : ℕ × Option Val) → IsOwnNewCell old seat e → IsOwnNewCell new seat e
   made-on e h = by (after old new l cell b e.0)
     where
-      by : ((e.0 ≡ l) × (cell_at new e.0 ≡ cell)) ⊎ (((e.0 ≡ l) → ⊥) × (cell_at new e.0 ≡ cell_at old e.0)) → IsMadeCell new seat e
+      by : ((e.0 ≡ l) × (cell_at new e.0 ≡ cell)) ⊎ (((e.0 ≡ l) → ⊥) × (cell_at new e.0 ≡ cell_at old e.0)) → IsOwnNewCell new seat e
       by (inl s) = record {
         own = subst (IsOwnedBy seat) (sym s.1) own;
         dead =
@@ -216,7 +216,7 @@ module _ (old new : Heap) (seat l : ℕ) (cell : Cell Val) (b : BecomesAt old ne
   set-given reads p v notes is h = record {
     seen = each (IsLogged old seat reads) (IsLogged new seat reads) (logged-on reads notes) p.seen h.seen;
     own = h.own;
-    made = each (IsMadeCell old seat) (IsMadeCell new seat) made-on p.made h.made;
+    made = each (IsOwnNewCell old seat) (IsOwnNewCell new seat) made-on p.made h.made;
     sets = held-on p.sets v is h.sets;
   }
 
@@ -410,7 +410,7 @@ allocation old new seat run o sort ty l v n p comes none b k =
     let set =
     set-given old new seat l.0 cell b k refl (λ own. absurd (apart own)) (λ m there valid. absurd (none there)) (λ there. absurd (none there)) (λ there. absurd (none there))
     run.reads p v o.notes refl h in
-    let fresh : IsMadeCell new seat (l.0, at p.sets l.0) = record {
+    let fresh : IsOwnNewCell new seat (l.0, at p.sets l.0) = record {
       own = ap (λ (x : Cell Val). x.owner) b.there;
       dead = ap (λ (x : Cell Val). x.live) b.there;
       unset = unset-there seat (cell_at old l.0) (at p.sets l.0) (h.sets l.0) apart;

@@ -27,7 +27,7 @@ use Rattle.ame_machine.specs.Run.Local.{LocalState, begun_with, took, set_at, ma
 use Rattle.ame_machine.specs.Run.Fit.{IsFitFor, IsTypedPlace, IsTypedThroughout}
 use Rattle.ame_machine.proofs.Run.TypedLemmas.{typed-begun, typed-more}
 use Rattle.ame_protocol.specs.Row.Heap.{Heap, cell_at, IsCell}
-use Rattle.ame_protocol.specs.Row.SeatRun.{SeatRun, StandsAt, ComesTo}
+use Rattle.ame_protocol.specs.Row.SeatRun.{SeatRun, IsAtAct, ComesTo}
 use Rattle.ame_protocol.specs.Row.Changed.{BecomesAt}
 use Rattle.ame_protocol.specs.Row.Own.{begun_seat, given_one, given_undo}
 use Rattle.ame_protocol.specs.Row.TypedHeap.{types_with, IsTypedHeap, IsTypedUndo, IsTypedRun}
@@ -43,7 +43,7 @@ scoped-on signature cells run act n p v result c gives fit all =
     (ap (λ (a : Act). fed a Side.Protected v p) c.there.acts ∙ gives) (subst (λ (a : Act). IsFitFor signature cells a v) (sym c.there.acts) fit)
 
 -- the act of a typed place
-pub act-typed : (signature : Signature) (cells : StoreTyping) (side : Side) (act : Act) (p : LocalState) → StandsAt side act p → IsTypedPlace signature cells Typ.Unit p
+pub act-typed : (signature : Signature) (cells : StoreTyping) (side : Side) (act : Act) (p : LocalState) → IsAtAct side act p → IsTypedPlace signature cells Typ.Unit p
     → (t : Typ) × IsTypedAct signature cells (effect_at side Effect.Protected) t act
 act-typed signature cells side act p there place =
     let f : HasRedex p.term there.redex side = found p.term there.redex side there.stands in

@@ -17,7 +17,7 @@ use Rattle.ame_machine.specs.Run.AgreesWith.{AgreesWith, IsAfterRun}
 use Rattle.ame_machine.specs.Run.Told.{TellsRun}
 use Rattle.ame_protocol.specs.Row.Heap.{Heap, cell_at, IsLive, IsCommitted, ShowsStore}
 use Rattle.ame_protocol.specs.Row.SeatRun.{SeatRun, HasUsed, IsValidNote, AreValid}
-use Rattle.ame_protocol.specs.Row.Given.{IsHeld, IsLogged, IsMadeCell, IsGiven, IsGivenThroughout}
+use Rattle.ame_protocol.specs.Row.Given.{IsHeld, IsLogged, IsOwnNewCell, IsGiven, IsGivenThroughout}
 use Rattle.ame_protocol.specs.Row.Changed.{ReleasesAll}
 use Rattle.ame_protocol.proofs.Row.CellLemmas.{each, dead-apart}
 
@@ -25,14 +25,14 @@ module _ (heap : Heap) (seat : ℕ) (store : List (ℕ × Val)) (c : IsCommitted
   seen-agrees : (reads : List ReadNote) → AreValid heap seat reads → (e : ℕ × Val) → IsLogged heap seat reads e → at store e.0 ≡ Some e.1
   seen-agrees reads valid e h = sym (shows e.0) ∙ h.given (All-contains (IsValidNote heap seat) reads h.note valid h.logged)
 
-  made-agrees : (e : ℕ × Option Val) → IsMadeCell heap seat e → (at store e.0 ≡ None) × (e.1 ≡ None)
+  made-agrees : (e : ℕ × Option Val) → IsOwnNewCell heap seat e → (at store e.0 ≡ None) × (e.1 ≡ None)
   made-agrees e h = (sym (shows e.0) ∙ c.dead e.0 h.dead, h.unset)
 
   pub agrees : (reads : List ReadNote) (p : LocalState) → AreValid heap seat reads → IsGiven heap seat reads p → AgreesWith store p
   agrees reads p valid h = record {
     seen = each (IsLogged heap seat reads) (λ e. at store e.0 ≡ Some e.1) (seen-agrees reads valid) p.seen h.seen;
     own = h.own;
-    made = each (IsMadeCell heap seat) (λ e. (at store e.0 ≡ None) × (e.1 ≡ None)) made-agrees p.made h.made;
+    made = each (IsOwnNewCell heap seat) (λ e. (at store e.0 ≡ None) × (e.1 ≡ None)) made-agrees p.made h.made;
   }
 
 -- So an entry records it.

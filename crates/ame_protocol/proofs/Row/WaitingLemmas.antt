@@ -19,7 +19,7 @@ use Rattle.ame_machine.specs.Run.Local.{LocalState}
 use Rattle.ame_machine.specs.Run.Told.{TellsRun}
 use Rattle.ame_protocol.specs.Row.Heap.{Heap, no_cell, cell_at, IsCell, IsLive, IsCommitted, ShowsStore}
 use Rattle.ame_protocol.specs.Row.SeatRun.{SeatRun, HasUsed, IsValidNote, AreValid}
-use Rattle.ame_protocol.specs.Row.Given.{IsLogged, IsMadeCell}
+use Rattle.ame_protocol.specs.Row.Given.{IsLogged, IsOwnNewCell}
 use Rattle.ame_protocol.specs.Row.Owes.{IsNote, Owes}
 use Rattle.ame_protocol.specs.Row.Framed.{IsChangedByOthers, IsFramedAt, IsFramed}
 use Rattle.ame_protocol.specs.Row.Changed.{BecomesAt, KeepsCommitted}
@@ -46,7 +46,7 @@ module _ (signature : Signature) (types : StoreTyping) (heap : Heap) (seat : ℕ
     h.given (All-contains (IsValidNote heap seat) run.reads h.note valid h.logged),
   )
 
-  made-waits : (e : ℕ × Option Val) → IsMadeCell heap seat e → IsGone seat (cell_at heap e.0) × (e.1 ≡ None)
+  made-waits : (e : ℕ × Option Val) → IsOwnNewCell heap seat e → IsGone seat (cell_at heap e.0) × (e.1 ≡ None)
   made-waits e h = (record { dead = h.dead; over = by (owned-reached signature types heap seat run s n p place o.given valid scoped e.0 h.own) }, h.unset)
     where
       by : IsLive (cell_at heap e.0) ⊎ ((cell_at heap e.0).number ≡ 1) → (2 ≤ (cell_at heap e.0).number) ⊎ (IsOwnedBy seat (cell_at heap e.0) × ((cell_at heap e.0).number ≡ 1))
@@ -61,7 +61,7 @@ module _ (signature : Signature) (types : StoreTyping) (heap : Heap) (seat : ℕ
         fails = fails;
         seen = each (IsLogged heap seat run.reads) (λ e. Contains (read_places run.reads) e.0 × (heap.committed e.0 ≡ Some e.1)) seen-waits p.seen h.seen;
         own = h.own;
-        made = each (IsMadeCell heap seat) (λ e. IsGone seat (cell_at heap e.0) × (e.1 ≡ None)) made-waits p.made h.made;
+        made = each (IsOwnNewCell heap seat) (λ e. IsGone seat (cell_at heap e.0) × (e.1 ≡ None)) made-waits p.made h.made;
         sorts =
             All-map (λ l. IsCell heap l × ((cell_at heap l).sort ≡ Sort.Protected)) (λ (x : ReadNote). x.loc.0) run.reads
             (All-weaker (IsNote heap) (λ x. IsCell heap x.loc.0 × ((cell_at heap x.loc.0).sort ≡ Sort.Protected)) (λ x k. (k.there, k.sort)) run.reads o.notes);

@@ -12,7 +12,7 @@ use Rattle.ame_machine.specs.Run.Fit.{IsFitFor, IsTypedPlace}
 use Rattle.ame_machine.proofs.Run.RunLemmas.{Feeds}
 use Rattle.ame_rows.specs.Committed.{committed}
 use Rattle.ame_protocol.specs.Row.Heap.{cell_at, IsLive}
-use Rattle.ame_protocol.specs.Row.SeatRun.{StandsAt}
+use Rattle.ame_protocol.specs.Row.SeatRun.{IsAtAct}
 use Rattle.ame_protocol.specs.Row.Scoped.{live_types}
 use Rattle.ame_protocol.proofs.Row.CellLemmas.{live_or_dead, live_cell}
 use Rattle.ame_protocol.proofs.Row.FreeLemmas.{write-live, write-stored}
@@ -53,7 +53,7 @@ module _ (parts : Parts) (s : Simulates parts) where
 
   module _ (u : Tree) (typed : IsTypedPlace parts.signature live Typ.Unit (begun_with u [])) where
     pub by-act : (side : Side) (act : Act) (v : Val) (part : Tree) (q : LocalState) → Feeds (begun_with u []) side act v part q → side ≡ Side.Unprotected
-        → IsGivenBy parts.memory act v → StandsAt side act (begun_with u []) → IsMadeHere parts s act v q
+        → IsGivenBy parts.memory act v → IsAtAct side act (begun_with u []) → IsMadeHere parts s act v q
     by-act _ _ _ _ _ (Feeds.allocates side sort ty w l) under given at_it =
         let same : l ≡ length parts.memory.cells = cc in
         let its = act-typed parts.signature live side (Act.Allocates sort ty w) (begun_with u []) at_it typed in
@@ -81,7 +81,7 @@ module _ (parts : Parts) (s : Simulates parts) where
       fit = committed-live parts s l v given;
     }
     by-act _ _ _ _ _ (Feeds.writes side l w) under given at_it =
-        let here = subst (λ (z : Side). StandsAt z (Act.Writes l w) (begun_with u [])) under at_it in
+        let here = subst (λ (z : Side). IsAtAct z (Act.Writes l w) (begun_with u [])) under at_it in
         record {
           types = s.types;
           settles =

@@ -17,7 +17,7 @@ use Rattle.ame_journal.proofs.UnfoldLemmas.{free-back}
 use Rattle.ame_machine.specs.Run.Local.{LocalState, begun_with}
 use Rattle.ame_machine.proofs.Run.ReplayLemmas.{free_run}
 use Rattle.ame_rows.specs.MemoryView.{MemoryView}
-use Rattle.ame_protocol.specs.Row.SeatRun.{StandsAt}
+use Rattle.ame_protocol.specs.Row.SeatRun.{IsAtAct}
 use Rattle.ame_protocol.specs.declared.types.Attempt.{Attempt}
 use Rattle.ame_protocol.specs.declared.types.Task.{Task}
 use Rattle.ame_protocol.specs.Engine.Parts.{Parts, whole_journal, task_at, term_at}
@@ -67,7 +67,7 @@ module _ (parts : Parts) (s : Simulates parts) (k : ℕ) where
     the_call = if device == k then (argument, answer) ∷ [] else []
 
     -- The run holds only its term.
-    bare-call : (u : Tree) → StepsTo parts number n (begun_with u []) → StandsAt Side.Unprotected (Act.Calls device argument) (begun_with u [])
+    bare-call : (u : Tree) → StepsTo parts number n (begun_with u []) → IsAtAct Side.Unprotected (Act.Calls device argument) (begun_with u [])
         → last_call k number (n + 1) [] (Some answer) s.r.state ≡ the_call
     bare-call u ran at_it =
         let state = s.r.state in
@@ -82,7 +82,7 @@ module _ (parts : Parts) (s : Simulates parts) (k : ℕ) where
         ∙ ap (λ (f : Focus). call_at k (Some answer) (redex_act f)) at_it.stands
         ∙ ap (λ (act : Act). call_at k (Some answer) (Some act)) at_it.acts
 
-    pub told-call : (p : LocalState) → StepsTo parts number n p → StandsAt Side.Unprotected (Act.Calls device argument) p
+    pub told-call : (p : LocalState) → StepsTo parts number n p → IsAtAct Side.Unprotected (Act.Calls device argument) p
         → device_calls k parts.program (whole_journal (has_visited seat number (n + 1) (answered_at answer p) true parts.memory parts))
         ≡ device_calls k parts.program (whole_journal parts) ++ the_call
     told-call p ran at_it =
@@ -93,4 +93,4 @@ module _ (parts : Parts) (s : Simulates parts) (k : ℕ) where
         ∙ one-more-call entry
         ∙ ap (λ (z : LocalState). calls ++ last_call k number (n + 1) z.fresh (Some answer) s.r.state) is
         ∙ ap (λ (xs : List (ℤ × ℤ)). calls ++ xs)
-        (bare-call p.term (ran ∙ ap Some is) (subst (StandsAt Side.Unprotected (Act.Calls device argument)) is at_it))
+        (bare-call p.term (ran ∙ ap Some is) (subst (IsAtAct Side.Unprotected (Act.Calls device argument)) is at_it))

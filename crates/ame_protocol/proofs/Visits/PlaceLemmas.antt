@@ -22,7 +22,7 @@ use Rattle.ame_machine.proofs.Run.TypedLemmas.{typed-begun}
 use Rattle.ame_rows.specs.Committed.{committed}
 use Rattle.ame_rows.proofs.CommittedLemmas.{live_committed}
 use Rattle.ame_protocol.specs.Row.Heap.{cell_at}
-use Rattle.ame_protocol.specs.Row.SeatRun.{StandsAt}
+use Rattle.ame_protocol.specs.Row.SeatRun.{IsAtAct}
 use Rattle.ame_protocol.specs.Row.Scoped.{live_types}
 use Rattle.ame_protocol.specs.Row.Free.{MeetsLive}
 use Rattle.ame_protocol.proofs.Row.FreeLemmas.{read-live, peek-live, write-live}
@@ -94,16 +94,16 @@ module _ (parts : Parts) (s : Simulates parts) (seat : ℕ) (attempt : Attempt) 
   -- The cells that it meets
 
   module _ (n : ℕ) (p : LocalState) (ran : StepsTo parts number n p) where
-    pub read-met : (l : ℕ) → StandsAt Side.Unprotected (Act.Reads l) p → MeetsLive (heap_in parts) l Sort.Unprotected
+    pub read-met : (l : ℕ) → IsAtAct Side.Unprotected (Act.Reads l) p → MeetsLive (heap_in parts) l Sort.Unprotected
     read-met l at_it = read-live parts.signature s.types (heap_in parts) s.typed.heap p (place-typed n p ran) l at_it
 
-    pub write-met : (l : ℕ) (v : Val) → StandsAt Side.Unprotected (Act.Writes l v) p → MeetsLive (heap_in parts) l Sort.Unprotected
+    pub write-met : (l : ℕ) (v : Val) → IsAtAct Side.Unprotected (Act.Writes l v) p → MeetsLive (heap_in parts) l Sort.Unprotected
     write-met l v at_it = write-live parts.signature s.types (heap_in parts) s.typed.heap p (place-typed n p ran) l v at_it
 
-    pub peek-met : (l : ℕ) → StandsAt Side.Unprotected (Act.Peeks l) p → MeetsLive (heap_in parts) l Sort.Protected
+    pub peek-met : (l : ℕ) → IsAtAct Side.Unprotected (Act.Peeks l) p → MeetsLive (heap_in parts) l Sort.Protected
     peek-met l at_it = peek-live parts.signature s.types (heap_in parts) s.typed.heap p (place-typed n p ran) l at_it
 
-    pub call-met : (device : ℕ) (argument : ℤ) → StandsAt Side.Unprotected (Act.Calls device argument) p → device < parts.signature.devices
+    pub call-met : (device : ℕ) (argument : ℤ) → IsAtAct Side.Unprotected (Act.Calls device argument) p → device < parts.signature.devices
     call-met device argument at_it = (act-typed parts.signature live Side.Unprotected (Act.Calls device argument) p at_it (place-typed n p ran)).1.0
 
 -- what a cell of unprotected code has in place is committed, and so is something at a live cell of protected code

@@ -27,7 +27,7 @@ use Rattle.ame_machine.proofs.Run.RunLemmas.{feeds-of, one-more}
 use Rattle.ame_machine.proofs.Run.TypedLemmas.{feeds-inputs, typed-more}
 use Rattle.ame_machine.proofs.Run.EntryLemmas.{run-free, run-closed}
 use Rattle.ame_rows.specs.MemoryView.{MemoryView}
-use Rattle.ame_protocol.specs.Row.SeatRun.{StandsAt}
+use Rattle.ame_protocol.specs.Row.SeatRun.{IsAtAct}
 use Rattle.ame_protocol.specs.Row.Scoped.{live_types}
 use Rattle.ame_protocol.proofs.Row.ReachLemmas.{place-grown}
 use Rattle.ame_protocol.specs.declared.types.Attempt.{Attempt}
@@ -144,7 +144,7 @@ module _ (parts : Parts) (s : Simulates parts) (seat : ℕ) (attempt : Attempt) 
         }
 
     -- an act
-    acted-visited : (act : Act) (v : Val) (made : Tree × LocalState) → StandsAt Side.Unprotected act (begun_with u [])
+    acted-visited : (act : Act) (v : Val) (made : Tree × LocalState) → IsAtAct Side.Unprotected act (begun_with u [])
         → IsGivenBy parts.memory act v → fed act Side.Unprotected v (begun_with u []) ≡ Some made
         → Visited parts s seat number (n + 1) (refilled_in u made) true (memory_after act parts.memory)
     acted-visited act v made at_it given gives =
@@ -213,7 +213,7 @@ module _ (parts : Parts) (s : Simulates parts) (seat : ℕ) (attempt : Attempt) 
   visited _ _ _ _ (IsVisit.acted n p act v made ran at_it given gives) =
       let is = alone first n p ran in
       let ran_bare : StepsTo parts number n (begun_with p.term []) = ran ∙ ap Some is in
-      acted-visited n p.term ran_bare act v made (subst (StandsAt Side.Unprotected act) is at_it) given
+      acted-visited n p.term ran_bare act v made (subst (IsAtAct Side.Unprotected act) is at_it) given
       (ap (fed act Side.Unprotected v) (sym is) ∙ gives)
   visited _ _ _ _ (IsVisit.closed n p v ran closes) =
       let is = alone first n p ran in

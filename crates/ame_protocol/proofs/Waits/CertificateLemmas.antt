@@ -17,7 +17,7 @@ use Rattle.ame_journal.proofs.UnderWayLemmas.{UnderWay-runs}
 use Rattle.ame_journal.proofs.UnfoldLemmas.{fragment-back}
 use Rattle.ame_journal.proofs.ReachedLemmas.{IsCalm, calm-replayed}
 use Rattle.ame_pool.specs.declared.member.Member.{Member}
-use Rattle.ame_pool.specs.declared.member.Standing.{Standing}
+use Rattle.ame_pool.specs.declared.member.MemberStanding.{MemberStanding}
 use Rattle.ame_pool.specs.declared.oldest.Oldest.{Oldest}
 use Rattle.ame_pool.specs.Members.{find, is_parked, IsRising}
 use Rattle.ame_pool.specs.Begin.{oldest, oldest_or_wait, first_to_begin, members_of}
@@ -171,11 +171,11 @@ all-parked pool e = by pool.members e
     by [] e = absurd (let clash : Oldest.Empty ≡ Oldest.Parked = e in cc)
     by (m ∷ ms) e = choose (list_all is_parked pool.members) refl e
 
-parked-waits : (x : Standing) → (elim x as (λ _. Bool) [ Standing.Ready ↦ false | Standing.Busy _ ↦ false | Standing.Parked _ ↦ true ]) ≡ true
+parked-waits : (x : MemberStanding) → (elim x as (λ _. Bool) [ MemberStanding.Ready ↦ false | MemberStanding.Busy _ ↦ false | MemberStanding.Parked _ ↦ true ]) ≡ true
     → (locs : List ℕ) × (watch_list x ≡ Some locs)
-parked-waits Standing.Ready e = absurd (let clash : false ≡ true = e in cc)
-parked-waits (Standing.Busy w) e = absurd (let clash : false ≡ true = e in cc)
-parked-waits (Standing.Parked locs) e = (locs, refl)
+parked-waits MemberStanding.Ready e = absurd (let clash : false ≡ true = e in cc)
+parked-waits (MemberStanding.Busy w) e = absurd (let clash : false ≡ true = e in cc)
+parked-waits (MemberStanding.Parked locs) e = (locs, refl)
 
 pub blocked-certificate : (parts : Parts) (s : Simulates parts) → AreWaiting parts → oldest parts.pool ≡ Oldest.Parked → (i : ℕ) (m : Member Tree)
     → find i parts.pool.members ≡ Some m

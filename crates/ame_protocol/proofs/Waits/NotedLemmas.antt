@@ -31,7 +31,7 @@ use Rattle.ame_protocol.specs.Row.Waiting.{read_places}
 use Rattle.ame_protocol.proofs.Row.CellLemmas.{which}
 use Rattle.ame_protocol.proofs.Row.ValidLemmas.{agrees, told}
 use Rattle.ame_protocol.specs.declared.types.Attempt.{Attempt}
-use Rattle.ame_protocol.specs.declared.types.Reason.{Reason}
+use Rattle.ame_protocol.specs.declared.types.UndoReason.{UndoReason}
 use Rattle.ame_protocol.specs.declared.types.Task.{Task}
 use Rattle.ame_protocol.specs.Engine.Parts.{Parts, whole_journal, heap_in, task_at, attempt_of, member_of, term_at, run_in}
 use Rattle.ame_protocol.specs.Engine.Tasks.{is_busy_as, HasAtWork, RunsProtected, MeetsTask}
@@ -95,7 +95,7 @@ module _ (parts : Parts) (s : Simulates parts) (seat : ℕ) (attempt : Attempt) 
   pool = noted number locs parts.pool
 
   abbrev next : Task
-  next = Task.Undoing (noted_attempt attempt) Reason.Noted
+  next = Task.Undoing (noted_attempt attempt) UndoReason.Noted
 
   abbrev tasks : List Task
   tasks = set parts.tasks seat next
@@ -246,7 +246,7 @@ module _ (parts : Parts) (s : Simulates parts) (a : RunsExclusively parts) (seat
   later = has_noted seat attempt n p parts
 
   abbrev later_task : Task
-  later_task = Task.Undoing (noted_attempt attempt) Reason.Noted
+  later_task = Task.Undoing (noted_attempt attempt) UndoReason.Noted
 
   found-later : IsFoundAfter attempt.tried.number (option_map (noted_on watched)) parts.pool.members later_pool.members
   found-later = found_altered attempt.tried.number (noted_on watched) (λ _. refl) parts.pool.members

@@ -6,7 +6,7 @@ use Rattle.ame_term.specs.Signature.{Signature}
 use Rattle.ame_journal.specs.declared.entry.Entry.{Entry}
 use Rattle.ame_journal.specs.declared.entry.EntryKind.{EntryKind}
 use Rattle.ame_pool.specs.declared.member.Member.{Member}
-use Rattle.ame_pool.specs.declared.member.Standing.{Standing}
+use Rattle.ame_pool.specs.declared.member.MemberStanding.{MemberStanding}
 use Rattle.ame_pool.specs.Members.{find, is_ready}
 use Rattle.ame_pool.specs.Found.{IsFoundAfter}
 use Rattle.ame_pool.specs.Roster.{Roster}
@@ -19,7 +19,7 @@ use Rattle.ame_protocol.specs.Row.Waiting.{read_places}
 use Rattle.ame_protocol.proofs.Row.CellLemmas.{which}
 use Rattle.ame_protocol.specs.declared.types.Limits.{Limits}
 use Rattle.ame_protocol.specs.declared.types.Attempt.{Attempt}
-use Rattle.ame_protocol.specs.declared.types.Reason.{Reason}
+use Rattle.ame_protocol.specs.declared.types.UndoReason.{UndoReason}
 use Rattle.ame_protocol.specs.declared.types.Task.{Task}
 use Rattle.ame_protocol.specs.Engine.Parts.{Parts, whole_journal, task_at}
 use Rattle.ame_protocol.specs.Engine.Tasks.{is_busy_as, is_noted_for, Visits, Undoes, MeetsTask}
@@ -54,10 +54,10 @@ stop-once parts a = once-on parts (has_stopped parts) refl (λ i some. some) a
 ready-unwatched : (m : Member Tree) → IsTrue (is_ready m) → watch_list m.standing ≡ None
 ready-unwatched m h = by m.standing h
   where
-    by : (x : Standing) → IsTrue (is_ready (record m { standing = x })) → watch_list x ≡ None
-    by Standing.Ready h = refl
-    by (Standing.Busy w) h = absurd (let clash : false ≡ true = h in cc)
-    by (Standing.Parked locs) h = absurd (let clash : false ≡ true = h in cc)
+    by : (x : MemberStanding) → IsTrue (is_ready (record m { standing = x })) → watch_list x ≡ None
+    by MemberStanding.Ready h = refl
+    by (MemberStanding.Busy w) h = absurd (let clash : false ≡ true = h in cc)
+    by (MemberStanding.Parked locs) h = absurd (let clash : false ≡ true = h in cc)
 
 pub begin-once : (parts : Parts) (seat number : ℕ) → IsAt is_ready number parts.pool → AreNotedOnce parts → AreNotedOnce (has_begun seat number parts)
 begin-once parts seat number ready a =
@@ -71,29 +71,29 @@ begin-once parts seat number ready a =
 pub unwatched-at : (pool : Roster Tree) (number : ℕ) → IsAt (is_busy_as false) number pool → watched_by number pool ≡ None
 unwatched-at pool number busy = let m = found-at pool number (is_busy_as false) busy in ap watched-of m.1 ∙ running-unwatched m.0 m.2
 
-home-keeps : (pool : Roster Tree) (number : ℕ) (reason : Reason) → IsAt (is_busy_as (is_noted_for reason)) number pool
+home-keeps : (pool : Roster Tree) (number : ℕ) (reason : UndoReason) → IsAt (is_busy_as (is_noted_for reason)) number pool
     → (i : ℕ) → IsSome (watched_by i pool) → IsSome (watched_by i (brought_home reason number pool))
-home-keeps pool number Reason.RolledBack busy =
-    altered-keeps number pool (brought_home Reason.RolledBack number pool) (unwatched-at pool number busy)
+home-keeps pool number UndoReason.RolledBack busy =
+    altered-keeps number pool (brought_home UndoReason.RolledBack number pool) (unwatched-at pool number busy)
     (found_altered number (at_home true) (λ _. refl) pool.members).others
-home-keeps pool number Reason.Noted busy = λ i some. subst IsSome (sym (same i)) some
+home-keeps pool number UndoReason.Noted busy = λ i some. subst IsSome (sym (same i)) some
   where
-    found : IsFoundAfter number (option_map at_rest) pool.members (brought_home Reason.Noted number pool).members
+    found : IsFoundAfter number (option_map at_rest) pool.members (brought_home UndoReason.Noted number pool).members
     found = found_altered number at_rest (λ _. refl) pool.members
 
-    same : (i : ℕ) → watched_by i (brought_home Reason.Noted number pool) ≡ watched_by i pool
+    same : (i : ℕ) → watched_by i (brought_home UndoReason.Noted number pool) ≡ watched_by i pool
     same i = by (which i number)
       where
-        by : (i ≡ number) ⊎ ((i ≡ number) → ⊥) → watched_by i (brought_home Reason.Noted number pool) ≡ watched_by i pool
+        by : (i ≡ number) ⊎ ((i ≡ number) → ⊥) → watched_by i (brought_home UndoReason.Noted number pool) ≡ watched_by i pool
         by (inl one) =
-            subst (λ (k : ℕ). watched_by k (brought_home Reason.Noted number pool) ≡ watched_by k pool) (sym one)
+            subst (λ (k : ℕ). watched_by k (brought_home UndoReason.Noted number pool) ≡ watched_by k pool) (sym one)
             (ap watched-of found.here ∙ rest-waits (find number pool.members))
         by (inr apart) = ap watched-of (found.others i apart)
-home-keeps pool number Reason.Stopped busy =
-    altered-keeps number pool (brought_home Reason.Stopped number pool) (unwatched-at pool number busy)
+home-keeps pool number UndoReason.Stopped busy =
+    altered-keeps number pool (brought_home UndoReason.Stopped number pool) (unwatched-at pool number busy)
     (found_altered number (at_home false) (λ _. refl) pool.members).others
 
-module _ (parts : Parts) (a : AreNotedOnce parts) (seat : ℕ) (attempt : Attempt) (reason : Reason) where
+module _ (parts : Parts) (a : AreNotedOnce parts) (seat : ℕ) (attempt : Attempt) (reason : UndoReason) where
   pub undone-once : AreNotedOnce (has_undone seat attempt reason parts)
   undone-once = by parts.stopped
     where
@@ -113,18 +113,18 @@ module _ (parts : Parts) (a : AreNotedOnce parts) (seat : ℕ) (attempt : Attemp
       by false = once-on parts (gone_parts seat attempt reason (parts.turns + 1) parts) refl (home-keeps parts.pool attempt.tried.number reason busy) a
 
 module _ (parts : Parts) (s : Simulates parts) (a : AreNotedOnce parts) (seat : ℕ) (attempt : Attempt) where
-  pub undoing-once : (reason : Reason) → task_at parts.tasks seat ≡ Task.Undoing attempt reason → AreNotedOnce (has_gone_home seat attempt reason parts)
+  pub undoing-once : (reason : UndoReason) → task_at parts.tasks seat ≡ Task.Undoing attempt reason → AreNotedOnce (has_gone_home seat attempt reason parts)
   undoing-once reason task =
       let h : Undoes parts s.types seat attempt reason = subst (MeetsTask parts s.types seat) task (s.seats seat) in
       gone-once parts a seat attempt reason h.work.busy
 
-  pub running-once : task_at parts.tasks seat ≡ Task.Running attempt → AreNotedOnce (has_gone_home seat attempt Reason.Stopped parts)
-  running-once task = gone-once parts a seat attempt Reason.Stopped (runs parts s seat attempt task).work.busy
+  pub running-once : task_at parts.tasks seat ≡ Task.Running attempt → AreNotedOnce (has_gone_home seat attempt UndoReason.Stopped parts)
+  running-once task = gone-once parts a seat attempt UndoReason.Stopped (runs parts s seat attempt task).work.busy
 
-  pub free-once : task_at parts.tasks seat ≡ Task.Free attempt → AreNotedOnce (has_gone_home seat attempt Reason.Stopped parts)
+  pub free-once : task_at parts.tasks seat ≡ Task.Free attempt → AreNotedOnce (has_gone_home seat attempt UndoReason.Stopped parts)
   free-once task =
       let h : Visits parts s.types seat attempt = subst (MeetsTask parts s.types seat) task (s.seats seat) in
-      gone-once parts a seat attempt Reason.Stopped h.work.busy
+      gone-once parts a seat attempt UndoReason.Stopped h.work.busy
 
   -- A note
   pub note-once : (n : ℕ) (p : LocalState) → task_at parts.tasks seat ≡ Task.Running attempt → AreNotedOnce (has_noted seat attempt n p parts)

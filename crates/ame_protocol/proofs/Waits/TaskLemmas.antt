@@ -31,7 +31,7 @@ use Rattle.ame_protocol.proofs.Row.CellLemmas.{which}
 use Rattle.ame_protocol.proofs.Row.EventLemmas.{taken-framed, again-framed, new-framed}
 use Rattle.ame_protocol.proofs.Row.WaitingLemmas.{waits}
 use Rattle.ame_protocol.specs.declared.types.Attempt.{Attempt}
-use Rattle.ame_protocol.specs.declared.types.Reason.{Reason}
+use Rattle.ame_protocol.specs.declared.types.UndoReason.{UndoReason}
 use Rattle.ame_protocol.specs.declared.types.Task.{Task}
 use Rattle.ame_protocol.specs.Engine.Logged.{heap_of, read_by}
 use Rattle.ame_protocol.specs.Engine.Parts.{Parts, whole_journal, heap_in, task_at, attempt_of, member_of, run_in}
@@ -200,7 +200,7 @@ module _ (parts : Parts) (s : Simulates parts) (seat : ℕ) (attempt : Attempt) 
     journal = sym (append_assoc parts.base parts.entries (stuck_entry seat number n p ∷ []))
 
     abbrev noted-task : Task
-    noted-task = Task.Undoing (noted_attempt attempt) Reason.Noted
+    noted-task = Task.Undoing (noted_attempt attempt) UndoReason.Noted
 
     next-task : task_at new.tasks seat ≡ noted-task
     next-task = task_here parts.tasks seat noted-task (seat_within parts.tasks seat attempt (ap attempt_of task))

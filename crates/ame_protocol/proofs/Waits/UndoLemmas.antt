@@ -26,7 +26,7 @@ use Rattle.ame_protocol.proofs.Row.CellLemmas.{which}
 use Rattle.ame_protocol.proofs.Row.SettledLemmas.{nothing-owned}
 use Rattle.ame_protocol.proofs.Row.WaitingLemmas.{waits-undone, waits-home}
 use Rattle.ame_protocol.specs.declared.types.Attempt.{Attempt}
-use Rattle.ame_protocol.specs.declared.types.Reason.{Reason}
+use Rattle.ame_protocol.specs.declared.types.UndoReason.{UndoReason}
 use Rattle.ame_protocol.specs.declared.types.Task.{Task}
 use Rattle.ame_protocol.specs.Engine.Logged.{heap_of}
 use Rattle.ame_protocol.specs.Engine.Parts.{Parts, heap_in, task_at, attempt_of, member_of}
@@ -136,7 +136,7 @@ module _ (parts : Parts) (s : Simulates parts) (seat : ℕ) (attempt : Attempt) 
 
   -- The member goes home
 
-  module _ (reason : Reason) (turns : ℕ) (few : length (row_at parts.memory.rows seat).undos ≤ 1) (a : AreWaiting parts) where
+  module _ (reason : UndoReason) (turns : ℕ) (few : length (row_at parts.memory.rows seat).undos ≤ 1) (a : AreWaiting parts) where
     abbrev home_pool : Roster Tree
     home_pool = brought_home reason number parts.pool
 
@@ -154,15 +154,15 @@ module _ (parts : Parts) (s : Simulates parts) (seat : ℕ) (attempt : Attempt) 
         let f = home-found reason number parts.pool in machines-stay number f.0 parts.pool.members home_pool.members f.1 f.2 f.3 i
 
     -- a member that waits at home was noted
-    home-watched : (r : Reason) (ws : List ℕ) → watched_by number (brought_home r number parts.pool) ≡ Some ws → watched_by number parts.pool ≡ Some ws
-    home-watched Reason.RolledBack ws e =
+    home-watched : (r : UndoReason) (ws : List ℕ) → watched_by number (brought_home r number parts.pool) ≡ Some ws → watched_by number parts.pool ≡ Some ws
+    home-watched UndoReason.RolledBack ws e =
         let none =
         ap watched-of (found_altered number (at_home true) (λ _. refl) parts.pool.members).here ∙ unwatched (at_home true) (λ _. refl)
         (find number parts.pool.members) in
         absurd (let clash : ◌≡◌ {A = Option (List ℕ)} None (Some ws) = sym none ∙ e in cc)
-    home-watched Reason.Noted ws e =
+    home-watched UndoReason.Noted ws e =
         sym (ap watched-of (found_altered number at_rest (λ _. refl) parts.pool.members).here ∙ rest-waits (find number parts.pool.members)) ∙ e
-    home-watched Reason.Stopped ws e =
+    home-watched UndoReason.Stopped ws e =
         let none =
         ap watched-of (found_altered number (at_home false) (λ _. refl) parts.pool.members).here ∙ unwatched (at_home false) (λ _. refl)
         (find number parts.pool.members) in
@@ -201,7 +201,7 @@ module _ (parts : Parts) (s : Simulates parts) (seat : ℕ) (attempt : Attempt) 
 
 module _ (parts : Parts) (s : Simulates parts) (a : AreWaiting parts) (seat : ℕ) (attempt : Attempt) where
   more-counted : (has : attempt_of (task_at parts.tasks seat) ≡ Some attempt) → All (IsTypedUndo parts.signature s.types) (row_at parts.memory.rows seat).undos
-      → (reason : Reason)
+      → (reason : UndoReason)
       → AreWaiting (has_undone seat attempt reason parts)
   more-counted has undos reason = by parts.stopped
     where
@@ -211,7 +211,7 @@ module _ (parts : Parts) (s : Simulates parts) (a : AreWaiting parts) (seat : �
       by false = undone-waiting parts s seat attempt has undos (Task.Undoing attempt reason) refl (parts.turns + 1) a
 
   home-counted : (has : attempt_of (task_at parts.tasks seat) ≡ Some attempt) → All (IsTypedUndo parts.signature s.types) (row_at parts.memory.rows seat).undos
-      → (reason : Reason)
+      → (reason : UndoReason)
       → length (row_at parts.memory.rows seat).undos ≤ 1 → AreWaiting (has_gone_home seat attempt reason parts)
   home-counted has undos reason few = by parts.stopped
     where
@@ -219,7 +219,7 @@ module _ (parts : Parts) (s : Simulates parts) (a : AreWaiting parts) (seat : �
       by true = gone-waiting parts s seat attempt has undos reason parts.turns few a
       by false = gone-waiting parts s seat attempt has undos reason (parts.turns + 1) few a
 
-  module _ (reason : Reason) (task : task_at parts.tasks seat ≡ Task.Undoing attempt reason) where
+  module _ (reason : UndoReason) (task : task_at parts.tasks seat ≡ Task.Undoing attempt reason) where
     its-undoes : Undoes parts s.types seat attempt reason
     its-undoes = subst (MeetsTask parts s.types seat) task (s.seats seat)
 
@@ -233,16 +233,16 @@ module _ (parts : Parts) (s : Simulates parts) (a : AreWaiting parts) (seat : �
     its-runs : RunsProtected parts s.types seat attempt
     its-runs = subst (MeetsTask parts s.types seat) task (s.seats seat)
 
-    pub running-more : AreWaiting (has_undone seat attempt Reason.Stopped parts)
-    running-more = more-counted (ap attempt_of task) its-runs.typed.undos Reason.Stopped
+    pub running-more : AreWaiting (has_undone seat attempt UndoReason.Stopped parts)
+    running-more = more-counted (ap attempt_of task) its-runs.typed.undos UndoReason.Stopped
 
-    pub running-home : length (row_at parts.memory.rows seat).undos ≤ 1 → AreWaiting (has_gone_home seat attempt Reason.Stopped parts)
-    running-home few = home-counted (ap attempt_of task) its-runs.typed.undos Reason.Stopped few
+    pub running-home : length (row_at parts.memory.rows seat).undos ≤ 1 → AreWaiting (has_gone_home seat attempt UndoReason.Stopped parts)
+    running-home few = home-counted (ap attempt_of task) its-runs.typed.undos UndoReason.Stopped few
 
-  pub free-home : task_at parts.tasks seat ≡ Task.Free attempt → AreWaiting (has_gone_home seat attempt Reason.Stopped parts)
+  pub free-home : task_at parts.tasks seat ≡ Task.Free attempt → AreWaiting (has_gone_home seat attempt UndoReason.Stopped parts)
   free-home task =
       let h : Visits parts s.types seat attempt = subst (MeetsTask parts s.types seat) task (s.seats seat) in
       let none : (row_at parts.memory.rows seat).undos ≡ [] = ap (λ (n : Log Val). n.undos) h.clear in
       home-counted (ap attempt_of task)
-      (subst (All (IsTypedUndo parts.signature s.types)) (sym none) (All-nil (IsTypedUndo parts.signature s.types))) Reason.Stopped
+      (subst (All (IsTypedUndo parts.signature s.types)) (sym none) (All-nil (IsTypedUndo parts.signature s.types))) UndoReason.Stopped
       (let e = ap (λ (xs : List (Undo Val)). length xs) none in omega arith)

@@ -8,7 +8,7 @@ use Rattle.ame_term.specs.Tree.{Tree}
 use Rattle.ame_journal.specs.declared.entry.Entry.{Entry}
 use Rattle.ame_journal.specs.Replay.{or_else}
 use Rattle.ame_pool.specs.declared.member.Member.{Member}
-use Rattle.ame_pool.specs.declared.member.Standing.{Standing}
+use Rattle.ame_pool.specs.declared.member.MemberStanding.{MemberStanding}
 use Rattle.ame_pool.specs.declared.member.Watch.{Watch}
 use Rattle.ame_pool.specs.Members.{find}
 use Rattle.ame_pool.specs.Roster.{Roster}
@@ -33,15 +33,15 @@ pub unwatched : (f : Member Tree → Member Tree) → ((m : Member Tree) → wat
 unwatched f none None = refl
 unwatched f none (Some m) = none m
 
-settled-waits : (x : Standing) → watch_list (settled x) ≡ watch_list x
-settled-waits Standing.Ready = refl
-settled-waits (Standing.Busy None) = refl
-settled-waits (Standing.Busy (Some w)) = by w.touched
+settled-waits : (x : MemberStanding) → watch_list (settled x) ≡ watch_list x
+settled-waits MemberStanding.Ready = refl
+settled-waits (MemberStanding.Busy None) = refl
+settled-waits (MemberStanding.Busy (Some w)) = by w.touched
   where
-    by : (b : Bool) → watch_list (cond b Standing.Ready (Standing.Parked w.locs)) ≡ cond b None (Some w.locs)
+    by : (b : Bool) → watch_list (cond b MemberStanding.Ready (MemberStanding.Parked w.locs)) ≡ cond b None (Some w.locs)
     by true = refl
     by false = refl
-settled-waits (Standing.Parked locs) = refl
+settled-waits (MemberStanding.Parked locs) = refl
 
 -- a noted member waits on when it is parked
 pub rest-waits : (o : Option (Member Tree)) → watched-of (option_map at_rest o) ≡ watched-of o
@@ -52,11 +52,11 @@ rest-waits (Some m) = settled-waits m.standing
 pub running-unwatched : (m : Member Tree) → IsTrue (is_running m) → watch_list m.standing ≡ None
 running-unwatched m h = by m.standing h
   where
-    by : (x : Standing) → IsTrue (is_running (record m { standing = x })) → watch_list x ≡ None
-    by Standing.Ready h = absurd (let clash : false ≡ true = h in cc)
-    by (Standing.Busy None) h = refl
-    by (Standing.Busy (Some w)) h = absurd (let clash : false ≡ true = h in cc)
-    by (Standing.Parked locs) h = absurd (let clash : false ≡ true = h in cc)
+    by : (x : MemberStanding) → IsTrue (is_running (record m { standing = x })) → watch_list x ≡ None
+    by MemberStanding.Ready h = absurd (let clash : false ≡ true = h in cc)
+    by (MemberStanding.Busy None) h = refl
+    by (MemberStanding.Busy (Some w)) h = absurd (let clash : false ≡ true = h in cc)
+    by (MemberStanding.Parked locs) h = absurd (let clash : false ≡ true = h in cc)
 
 -- Woken members
 
@@ -65,23 +65,23 @@ module _ (l : ℕ) (ws : List ℕ) where
   its-list true locs e = absurd (let clash : ◌≡◌ {A = Option (List ℕ)} None (Some ws) = e in cc)
   its-list false locs e = let both : ◌≡◌ {A = Option (List ℕ)} (Some locs) (Some ws) = e in cc
 
-  listed-stirred : (b : Bool) (w : Watch) → has l w.locs ≡ b → watch_list (Standing.Busy (Some (cond b (record w { touched = true }) w))) ≡ Some ws
+  listed-stirred : (b : Bool) (w : Watch) → has l w.locs ≡ b → watch_list (MemberStanding.Busy (Some (cond b (record w { touched = true }) w))) ≡ Some ws
       → (cond w.touched None (Some w.locs) ≡ Some ws) × (has l ws ≡ false)
   listed-stirred true w is e = absurd (let clash : ◌≡◌ {A = Option (List ℕ)} None (Some ws) = e in cc)
   listed-stirred false w is e = (e, ap (has l) (sym (its-list w.touched w.locs e)) ∙ is)
 
-  parked-stirred : (b : Bool) (locs : List ℕ) → has l locs ≡ b → watch_list (cond b Standing.Ready (Standing.Parked locs)) ≡ Some ws
+  parked-stirred : (b : Bool) (locs : List ℕ) → has l locs ≡ b → watch_list (cond b MemberStanding.Ready (MemberStanding.Parked locs)) ≡ Some ws
       → (◌≡◌ {A = Option (List ℕ)} (Some locs) (Some ws)) × (has l ws ≡ false)
   parked-stirred true locs is e = absurd (let clash : ◌≡◌ {A = Option (List ℕ)} None (Some ws) = e in cc)
   parked-stirred false locs is e =
       let both : ◌≡◌ {A = Option (List ℕ)} (Some locs) (Some ws) = e in let same : locs ≡ ws = cc in (both, ap (has l) (sym same) ∙ is)
 
   -- who waits after a write to a location waited before, and not for it
-  stirred-waits : (x : Standing) → watch_list (stirred l x) ≡ Some ws → (watch_list x ≡ Some ws) × (has l ws ≡ false)
-  stirred-waits Standing.Ready e = absurd (let clash : ◌≡◌ {A = Option (List ℕ)} None (Some ws) = e in cc)
-  stirred-waits (Standing.Busy None) e = absurd (let clash : ◌≡◌ {A = Option (List ℕ)} None (Some ws) = e in cc)
-  stirred-waits (Standing.Busy (Some w)) e = listed-stirred (has l w.locs) w refl e
-  stirred-waits (Standing.Parked locs) e = parked-stirred (has l locs) locs refl e
+  stirred-waits : (x : MemberStanding) → watch_list (stirred l x) ≡ Some ws → (watch_list x ≡ Some ws) × (has l ws ≡ false)
+  stirred-waits MemberStanding.Ready e = absurd (let clash : ◌≡◌ {A = Option (List ℕ)} None (Some ws) = e in cc)
+  stirred-waits (MemberStanding.Busy None) e = absurd (let clash : ◌≡◌ {A = Option (List ℕ)} None (Some ws) = e in cc)
+  stirred-waits (MemberStanding.Busy (Some w)) e = listed-stirred (has l w.locs) w refl e
+  stirred-waits (MemberStanding.Parked locs) e = parked-stirred (has l locs) locs refl e
 
   stirred-of : (o : Option (Member Tree)) → watched-of (option_map (stirred_by l) o) ≡ Some ws → (watched-of o ≡ Some ws) × (has l ws ≡ false)
   stirred-of None e = absurd (let clash : ◌≡◌ {A = Option (List ℕ)} None (Some ws) = e in cc)

@@ -6,7 +6,7 @@ use Rattle.ame_pool.specs.declared.member.Member.{Member}
 use Rattle.ame_pool.specs.Members.{find}
 use Rattle.ame_pool.specs.Roster.{Roster}
 use Rattle.ame_pool.specs.Standings.{max_rollbacks}
-use Rattle.ame_protocol.specs.declared.types.Reason.{Reason}
+use Rattle.ame_protocol.specs.declared.types.UndoReason.{UndoReason}
 use Rattle.ame_protocol.specs.declared.types.Task.{Task}
 use Rattle.ame_protocol.specs.Engine.Parts.{Parts, task_at}
 use Rattle.ame_protocol.specs.Bounds.Seats.{over_seats}
@@ -30,14 +30,14 @@ module _ {M : Type 0} where
 
 -- A row that is undone has its reason: its member may be rolled back once more, an entry was added for it, or a stop is kept.
 abbrev pub HasReason : Parts → Task → Type 0
-HasReason parts (Task.Undoing attempt Reason.RolledBack) = MayTurnBack attempt.tried.number parts.pool
-HasReason parts (Task.Undoing attempt Reason.Noted) = attempt.logged ≡ true
-HasReason parts (Task.Undoing attempt Reason.Stopped) = parts.stopped ≡ true
+HasReason parts (Task.Undoing attempt UndoReason.RolledBack) = MayTurnBack attempt.tried.number parts.pool
+HasReason parts (Task.Undoing attempt UndoReason.Noted) = attempt.logged ≡ true
+HasReason parts (Task.Undoing attempt UndoReason.Stopped) = parts.stopped ≡ true
 HasReason parts _ = Unit {0}
 
 -- Returns one if a seat brings home a member that turned back and whose rollback isn't counted yet.
 abbrev pub turning_back : Task → ℕ
-turning_back (Task.Undoing attempt Reason.RolledBack) = 1
+turning_back (Task.Undoing attempt UndoReason.RolledBack) = 1
 turning_back _ = 0
 
 -- This number of answers turned members back. It is at most the sum of three: the most rollbacks of a member for each entry, the rollbacks

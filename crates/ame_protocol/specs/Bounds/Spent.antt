@@ -6,7 +6,7 @@ use Rattle.ame_journal.specs.declared.entry.Entry.{Entry}
 use Rattle.ame_rows.specs.MemoryView.{Log, row_at}
 use Rattle.ame_protocol.specs.declared.types.Tried.{Tried}
 use Rattle.ame_protocol.specs.declared.types.Attempt.{Attempt}
-use Rattle.ame_protocol.specs.declared.types.Reason.{Reason}
+use Rattle.ame_protocol.specs.declared.types.UndoReason.{UndoReason}
 use Rattle.ame_protocol.specs.declared.types.Task.{Task}
 use Rattle.ame_protocol.specs.Engine.Parts.{Parts, task_at, attempt_of}
 use Rattle.ame_protocol.specs.Bounds.Seats.{over_seats}
@@ -38,7 +38,7 @@ allowance slice notes (Task.Undoing attempt reason) =
 
 -- the undos that a noted row still needs, at least one
 abbrev pub undos_left : Log Val → Task → ℕ
-undos_left notes (Task.Undoing attempt Reason.Noted) = max 1 (length notes.undos)
+undos_left notes (Task.Undoing attempt UndoReason.Noted) = max 1 (length notes.undos)
 undos_left notes _ = 0
 
 -- all allowances of an engine, and all undos that are left
@@ -53,9 +53,9 @@ abbrev pub IsToldInTime : Task → Type 0
 IsToldInTime Task.Idle = Unit {0}
 IsToldInTime (Task.Running attempt) = attempt.logged ≡ false
 IsToldInTime (Task.Free attempt) = attempt.logged ≡ false
-IsToldInTime (Task.Undoing attempt Reason.RolledBack) = attempt.logged ≡ false
-IsToldInTime (Task.Undoing attempt Reason.Noted) = attempt.logged ≡ true
-IsToldInTime (Task.Undoing attempt Reason.Stopped) = ⊥
+IsToldInTime (Task.Undoing attempt UndoReason.RolledBack) = attempt.logged ≡ false
+IsToldInTime (Task.Undoing attempt UndoReason.Noted) = attempt.logged ≡ true
+IsToldInTime (Task.Undoing attempt UndoReason.Stopped) = ⊥
 
 -- The turns, with the undos that noted rows still need, are paid by the entries, by the tries, and by what the rows at work are
 -- allowed. A row has no more inputs than its steps at the last valid check and a slice, and no more to undo than inputs.

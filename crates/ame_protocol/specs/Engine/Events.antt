@@ -17,7 +17,7 @@ use Rattle.ame_rows.specs.LettingGo.{undone_last, released_all}
 use Rattle.ame_protocol.specs.declared.types.Limits.{Limits}
 use Rattle.ame_protocol.specs.declared.types.Tried.{Tried}
 use Rattle.ame_protocol.specs.declared.types.Attempt.{Attempt}
-use Rattle.ame_protocol.specs.declared.types.Reason.{Reason}
+use Rattle.ame_protocol.specs.declared.types.UndoReason.{UndoReason}
 use Rattle.ame_protocol.specs.declared.types.Task.{Task}
 use Rattle.ame_protocol.specs.Engine.Logged.{read_by}
 use Rattle.ame_protocol.specs.Engine.Parts.{Parts, whole_journal}
@@ -96,7 +96,7 @@ has_checked seat steps attempt parts = one_turn (with_task seat (Task.Running (c
 
 -- a seat turns back: its write met another seat's cell, or one of its reads isn't valid
 abbrev pub has_turned_back : ℕ → Attempt → Parts → Parts
-has_turned_back seat attempt parts = one_turn (with_task seat (Task.Undoing attempt Reason.RolledBack) parts)
+has_turned_back seat attempt parts = one_turn (with_task seat (Task.Undoing attempt UndoReason.RolledBack) parts)
 
 -- a stop is kept
 abbrev pub has_stopped : Parts → Parts
@@ -107,21 +107,21 @@ abbrev pub undo_turn : Parts → Parts
 undo_turn parts = if parts.stopped then parts else one_turn parts
 
 -- the last entry is undone, and others are left
-abbrev pub has_undone : ℕ → Attempt → Reason → Parts → Parts
+abbrev pub has_undone : ℕ → Attempt → UndoReason → Parts → Parts
 has_undone seat attempt reason parts = undo_turn (with_task seat (Task.Undoing attempt reason) (with_memory (undone_last seat parts.memory) parts))
 
 -- a member goes home, by the reason for which its row was undone
-abbrev pub brought_home : Reason → ℕ → Roster Tree → Roster Tree
-brought_home Reason.RolledBack number pool = home number true pool
-brought_home Reason.Noted number pool = parked number pool
-brought_home Reason.Stopped number pool = home number false pool
+abbrev pub brought_home : UndoReason → ℕ → Roster Tree → Roster Tree
+brought_home UndoReason.RolledBack number pool = home number true pool
+brought_home UndoReason.Noted number pool = parked number pool
+brought_home UndoReason.Stopped number pool = home number false pool
 
 -- Returns the attempts without an entry, with this one if it has none.
 abbrev pub with_try : Attempt → List Tried → List Tried
 with_try attempt tried = if attempt.logged then tried else tried ++ attempt.tried ∷ []
 
 -- nothing is left to undo, and the member goes home
-abbrev pub has_gone_home : ℕ → Attempt → Reason → Parts → Parts
+abbrev pub has_gone_home : ℕ → Attempt → UndoReason → Parts → Parts
 has_gone_home seat attempt reason parts =
     undo_turn (with_task seat Task.Idle (record parts {
       memory = undone_last seat parts.memory;

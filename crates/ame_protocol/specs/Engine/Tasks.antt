@@ -12,7 +12,7 @@ use Rattle.ame_protocol.specs.Row.Scoped.{IsScoped}
 use Rattle.ame_protocol.specs.Row.Tries.{IsSoundTry}
 use Rattle.ame_protocol.specs.declared.types.Tried.{Tried}
 use Rattle.ame_protocol.specs.declared.types.Attempt.{Attempt}
-use Rattle.ame_protocol.specs.declared.types.Reason.{Reason}
+use Rattle.ame_protocol.specs.declared.types.UndoReason.{UndoReason}
 use Rattle.ame_protocol.specs.declared.types.Task.{Task}
 use Rattle.ame_protocol.specs.Engine.Parts.{Parts, whole_journal, heap_in, run_in}
 
@@ -21,10 +21,10 @@ abbrev pub is_busy_as : Bool → Member Tree → Bool
 is_busy_as noted member = if noted then is_noted member else is_running member
 
 -- whether a row that is undone for this reason has a noted member
-abbrev pub is_noted_for : Reason → Bool
-is_noted_for Reason.RolledBack = false
-is_noted_for Reason.Noted = true
-is_noted_for Reason.Stopped = false
+abbrev pub is_noted_for : UndoReason → Bool
+is_noted_for UndoReason.RolledBack = false
+is_noted_for UndoReason.Noted = true
+is_noted_for UndoReason.Stopped = false
 
 -- a try that leaves no entry is sound
 abbrev pub IsSoundIn : Parts → Tried → Type 0
@@ -54,7 +54,7 @@ module _ (parts : Parts) (types : StoreTyping) (seat : ℕ) where
     pub clear : row_at parts.memory.rows seat ≡ no_log
 
   -- protected code is undone: what is left to undo is typed
-  pub record Undoes (attempt : Attempt) (reason : Reason) : Type 0 where
+  pub record Undoes (attempt : Attempt) (reason : UndoReason) : Type 0 where
     pub work : HasAtWork parts (is_noted_for reason) attempt
     pub outside : inside_of attempt.tried.number parts.pool ≡ Some false
     pub undos : All (IsTypedUndo parts.signature types) (row_at parts.memory.rows seat).undos

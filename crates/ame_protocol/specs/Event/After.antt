@@ -12,7 +12,7 @@ use Rattle.ame_protocol.specs.declared.stop.Stop.{Stop}
 use Rattle.ame_protocol.specs.Event.Causes.{certificates_for}
 use Rattle.ame_protocol.specs.Event.Counting.{Counted, one_counted, one_invalid, one_undone}
 use Rattle.ame_protocol.specs.Event.Undoing.{reason_to_undo}
-use Rattle.ame_protocol.specs.Event.State.{State}
+use Rattle.ame_protocol.specs.Event.EngineState.{EngineState}
 use Rattle.ame_protocol.specs.Event.Event.{Event, Find, Reverse}
 
 -- Returns the parts after an event.
@@ -42,7 +42,7 @@ counted_find Find.Block = Counted.Block
 counted_find Find.Tall = Counted.Tall
 
 -- Returns the counters after an event. Each event is one more of its kind, but a note of a row that is cut off and a halt are none.
-abbrev pub counted_by : Event → State → Counters
+abbrev pub counted_by : Event → EngineState → Counters
 counted_by (Event.Begin seat number) s = one_counted Counted.Begin s.counters
 counted_by (Event.Read seat l) s = one_counted Counted.Read s.counters
 counted_by (Event.Write seat l v) s = one_counted Counted.Write s.counters
@@ -70,10 +70,10 @@ stop_after (Event.Halt why) stop = Some why
 stop_after _ stop = stop
 
 -- Returns the certificates after an event. They are reported if all members are blocked.
-abbrev pub certificates_after : Event → State → List Certificate
+abbrev pub certificates_after : Event → EngineState → List Certificate
 certificates_after (Event.Halt why) s = certificates_for (Some why) s.parts
 certificates_after _ s = s.certificates
 
 -- Returns the state after an event.
-abbrev pub after : Event → State → State
+abbrev pub after : Event → EngineState → EngineState
 after e s = record { parts = after_parts e s.parts; counters = counted_by e s; stop = stop_after e s.stop; certificates = certificates_after e s }

@@ -6,13 +6,13 @@ use Rattle.ame_protocol.specs.Engine.Events.{ran_entry}
 use Rattle.ame_protocol.specs.Waits.Noted.{stuck_entry}
 use Rattle.ame_protocol.specs.Visits.Visit.{free_entry}
 use Rattle.ame_protocol.specs.Visits.Stops.{note_entry}
-use Rattle.ame_protocol.specs.Event.State.{State}
+use Rattle.ame_protocol.specs.Event.EngineState.{EngineState}
 use Rattle.ame_protocol.specs.Event.Event.{Event}
 use Rattle.ame_protocol.specs.Event.After.{after}
 use Rattle.ame_protocol.specs.Event.May.{May}
 
 -- A run of events leads from one state to another, and each event may happen in the state to which the earlier ones lead.
-abbrev pub Follows : State → List Event → State → Type 0
+abbrev pub Follows : EngineState → List Event → EngineState → Type 0
 Follows s [] end = end ≡ s
 Follows s (e ∷ es) end = May e s × Follows (after e s) es end
 

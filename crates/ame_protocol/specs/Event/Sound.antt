@@ -9,7 +9,7 @@ use Rattle.ame_protocol.specs.Event.Causes.{HasCause}
 use Rattle.ame_protocol.specs.Event.Counting.{CountsTurns}
 use Rattle.ame_protocol.specs.Event.Lone.{IsLone}
 use Rattle.ame_protocol.specs.Event.Rollbacks.{IsGoodPool}
-use Rattle.ame_protocol.specs.Event.State.{State}
+use Rattle.ame_protocol.specs.Event.EngineState.{EngineState}
 use Rattle.ame_protocol.specs.Event.Seated.{AreSeated}
 
 -- The parts record whether a stop is kept, and stand for the state of the strong semantics to which the journal leads. No member was rolled
@@ -17,7 +17,7 @@ use Rattle.ame_protocol.specs.Event.Seated.{AreSeated}
 -- did. Rollbacks and attempts without an entry are few, and the turns are paid. Each waiting member has a note of its false condition, and
 -- none is noted twice without a commit between. A kept stop has its cause. Each turn is counted by its kind. Each busy member is at work on
 -- a seat.
-pub record Sound (s : State) : Type 0 where
+pub record Sound (s : EngineState) : Type 0 where
   pub stopped : s.parts.stopped ≡ is_some s.stop
   pub stands : Simulates s.parts
   pub pool : IsGoodPool s.parts.pool

@@ -25,7 +25,7 @@ module _ (heap : Heap) (seat : ℕ) where
     pub given : IsValidNote heap seat note → heap.committed taken.0 ≡ Some taken.1
 
   -- a cell that the run made is the seat's own, isn't live, and was unset before
-  pub record IsMadeCell (made : ℕ × Option Val) : Type 0 where
+  pub record IsOwnNewCell (made : ℕ × Option Val) : Type 0 where
     pub own : IsOwnedBy seat (cell_at heap made.0)
     pub dead : IsDead (cell_at heap made.0)
     pub unset : made.1 ≡ None
@@ -34,7 +34,7 @@ module _ (heap : Heap) (seat : ℕ) where
   pub record IsGiven (reads : List ReadNote) (p : LocalState) : Type 0 where
     pub seen : AllByRecursion (IsLogged reads) p.seen
     pub own : AllByRecursion (λ e. e.0 ≡ e.1) p.own
-    pub made : AllByRecursion IsMadeCell p.made
+    pub made : AllByRecursion IsOwnNewCell p.made
     pub sets : (l : ℕ) → IsHeld seat (cell_at heap l) (at p.sets l)
 
   -- so it is at each place that has used all inputs

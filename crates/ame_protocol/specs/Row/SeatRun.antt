@@ -30,7 +30,7 @@ pub record IsSomewhere (run : SeatRun) : Type 0 where
   pub used : HasUsed run steps place
 
 -- a place of a run stands at an act, on a side of `unprotected`
-pub record StandsAt (side : Side) (act : Act) (p : LocalState) : Type 0 where
+pub record IsAtAct (side : Side) (act : Act) (p : LocalState) : Type 0 where
   pub redex : Tree
   pub stands : focus p.term ≡ Focus.AtRedex side redex
   pub acts : act_of redex ≡ act
@@ -38,7 +38,7 @@ pub record StandsAt (side : Side) (act : Act) (p : LocalState) : Type 0 where
 -- The run has used all that it was given, and has come to an act.
 pub record ComesTo (run : SeatRun) (act : Act) (n : ℕ) (p : LocalState) : Type 0 where
   pub place : HasUsed run n p
-  pub there : StandsAt Side.Protected act p
+  pub there : IsAtAct Side.Protected act p
 
 module _ (heap : Heap) (seat : ℕ) where
   -- a logged read of a seat is valid, by the cell that is there now

@@ -13,7 +13,7 @@ use Rattle.ame_pool.specs.Roster.{Roster}
 use Rattle.ame_pool.specs.Calls.{machine_of}
 use Rattle.ame_pool.specs.Keeps.{is_inside_at}
 use Rattle.ame_pool.specs.Members.{IsRising}
-use Rattle.ame_pool.specs.declared.member.Standing.{Standing}
+use Rattle.ame_pool.specs.declared.member.MemberStanding.{MemberStanding}
 use Rattle.ame_rows.specs.MemoryView.{no_log}
 use Rattle.ame_protocol.specs.Row.Heap.{no_cell, IsLive}
 use Rattle.ame_protocol.specs.declared.types.Limits.{Limits}
@@ -68,7 +68,7 @@ pub record HasMembersOf (r : Replayed) (pool : Roster Tree) : Type 0 where
   pub inside : (i : ℕ) → is_inside r i ≡ is_inside_at pool.members i
 
 -- all members are ready in order of their numbers, and none was rolled back
-pub record AreReady {M : Type 0} (pool : Roster M) : Type 0 where
+pub record AreAllReady {M : Type 0} (pool : Roster M) : Type 0 where
   pub rising : IsRising pool.members
-  pub ready : All (λ m. (m.standing ≡ Standing.Ready) × (m.rollbacks ≡ 0)) pool.members
+  pub ready : All (λ m. (m.standing ≡ MemberStanding.Ready) × (m.rollbacks ≡ 0)) pool.members
   pub order : pool.order ≡ map (λ m. m.number) pool.members

@@ -10,7 +10,7 @@ use Rattle.ame_journal.specs.declared.entry.EntryKind.{EntryKind}
 use Rattle.ame_pool.specs.Calls.{exchanged, home}
 use Rattle.ame_machine.specs.Run.Local.{LocalState, fed, refilled_in, local}
 use Rattle.ame_rows.specs.MemoryView.{MemoryView}
-use Rattle.ame_protocol.specs.Row.SeatRun.{StandsAt}
+use Rattle.ame_protocol.specs.Row.SeatRun.{IsAtAct}
 use Rattle.ame_protocol.specs.declared.types.Task.{Task}
 use Rattle.ame_protocol.specs.Engine.Parts.{Parts, term_at}
 use Rattle.ame_protocol.specs.Engine.Events.{one_turn, with_task, has_stopped, with_newcomers}
@@ -33,7 +33,7 @@ StepsTo parts number n p = local Side.Unprotected (term_at parts.pool number) []
 pub data IsVisit (parts : Parts) (number : ℕ) : ℕ → LocalState → Bool → MemoryView Val → Type 0 where
   stepped : (n : ℕ) (p : LocalState) → 0 < n → StepsTo parts number n p → IsVisit parts number n p true parts.memory
   acted : (n : ℕ) (p : LocalState) (act : Act) (v : Val) (made : Tree × LocalState) → StepsTo parts number n p
-      → StandsAt Side.Unprotected act p → IsGivenBy parts.memory act v → fed act Side.Unprotected v p ≡ Some made
+      → IsAtAct Side.Unprotected act p → IsGivenBy parts.memory act v → fed act Side.Unprotected v p ≡ Some made
       → IsVisit parts number (n + 1) (refilled_in p.term made) true (memory_after act parts.memory)
   closed : (n : ℕ) (p : LocalState) (v : Val) → StepsTo parts number n p → closed_value (focus p.term) ≡ Some v
       → IsVisit parts number (n + 1) (closed_at v p) false parts.memory

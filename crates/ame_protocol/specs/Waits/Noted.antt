@@ -7,7 +7,7 @@ use Rattle.ame_machine.specs.Run.Local.{LocalState}
 use Rattle.ame_rows.specs.MemoryView.{row_at}
 use Rattle.ame_protocol.specs.Row.Waiting.{read_places}
 use Rattle.ame_protocol.specs.declared.types.Attempt.{Attempt}
-use Rattle.ame_protocol.specs.declared.types.Reason.{Reason}
+use Rattle.ame_protocol.specs.declared.types.UndoReason.{UndoReason}
 use Rattle.ame_protocol.specs.declared.types.Task.{Task}
 use Rattle.ame_protocol.specs.Engine.Parts.{Parts}
 use Rattle.ame_protocol.specs.Engine.Events.{one_turn, with_task}
@@ -20,7 +20,7 @@ stuck_entry seat number steps p =
 -- The note joins the journal as the attempt's entry, the member watches the locations that its row read, and the row is to be undone.
 abbrev pub has_noted : ℕ → Attempt → ℕ → LocalState → Parts → Parts
 has_noted seat attempt steps p parts =
-    one_turn (with_task seat (Task.Undoing (record attempt { logged = true }) Reason.Noted) (record parts {
+    one_turn (with_task seat (Task.Undoing (record attempt { logged = true }) UndoReason.Noted) (record parts {
       entries = parts.entries ++ stuck_entry seat attempt.tried.number steps p ∷ [];
       pool = noted attempt.tried.number (read_places (row_at parts.memory.rows seat).reads) parts.pool;
     }))

@@ -4,7 +4,7 @@ use Rattle.ame_term.specs.Tree.{Tree}
 use Rattle.ame_journal.specs.declared.entry.Entry.{Entry}
 use Rattle.ame_journal.specs.declared.entry.EntryKind.{EntryKind}
 use Rattle.ame_journal.specs.Replay.{or_else}
-use Rattle.ame_pool.specs.declared.member.Standing.{Standing}
+use Rattle.ame_pool.specs.declared.member.MemberStanding.{MemberStanding}
 use Rattle.ame_pool.specs.Members.{find}
 use Rattle.ame_pool.specs.Roster.{Roster}
 use Rattle.ame_pool.specs.Calls.{machine_of}
@@ -15,11 +15,11 @@ use Rattle.ame_protocol.specs.declared.types.Task.{Task}
 use Rattle.ame_protocol.specs.Engine.Parts.{Parts, whole_journal, heap_in, task_at, member_of}
 
 -- the locations for which a member waits, if it waits: it is parked, or was noted and is untouched since
-abbrev pub watch_list : Standing → Option (List ℕ)
-watch_list Standing.Ready = None
-watch_list (Standing.Busy None) = None
-watch_list (Standing.Busy (Some watch)) = cond watch.touched None (Some watch.locs)
-watch_list (Standing.Parked locs) = Some locs
+abbrev pub watch_list : MemberStanding → Option (List ℕ)
+watch_list MemberStanding.Ready = None
+watch_list (MemberStanding.Busy None) = None
+watch_list (MemberStanding.Busy (Some watch)) = cond watch.touched None (Some watch.locs)
+watch_list (MemberStanding.Parked locs) = Some locs
 
 -- the same of the member with a number
 abbrev pub watched_by : ℕ → Roster Tree → Option (List ℕ)

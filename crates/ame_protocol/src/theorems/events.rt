@@ -6,7 +6,7 @@ ghost use Rattle.ame_term.specs.Tree.{Tree, Typ};
 ghost use Rattle.ame_machine.specs.Sound.{IsAccepted};
 ghost use Rattle.ame_protocol.specs.declared.types.Limits.{Limits};
 ghost use Rattle.ame_protocol.specs.Event.Counting.{turns_in};
-ghost use Rattle.ame_protocol.specs.Event.State.{State, started_state};
+ghost use Rattle.ame_protocol.specs.Event.EngineState.{EngineState, started_state};
 ghost use Rattle.ame_protocol.specs.Event.Event.{Event, Reverse};
 ghost use Rattle.ame_protocol.specs.Event.After.{after};
 ghost use Rattle.ame_protocol.specs.Event.May.{May};
@@ -26,49 +26,49 @@ pub fn states_start_sound()
 
 /// Says that each event that may happen keeps a state sound.
 pub fn events_keep_states_sound()
-    ensures { (e : Event) (s : State) → May e s → Sound s → Sound (after e s) }
+    ensures { (e : Event) (s : EngineState) → May e s → Sound s → Sound (after e s) }
 {}
 
 /// Says that each run keeps a state sound.
 pub fn runs_keep_states_sound()
-    ensures { (es : List Event) (s end : State) → Follows s es end → Sound s → Sound end }
+    ensures { (es : List Event) (s end : EngineState) → Follows s es end → Sound s → Sound end }
 {}
 
 /// Says that a run can be continued by each event that may happen in the state to which it has come.
 pub fn runs_go_on()
-    ensures { (es : List Event) (s end : State) (e : Event) → Follows s es end → May e end → Follows s (es ++ e ∷ []) (after e end) }
+    ensures { (es : List Event) (s end : EngineState) (e : Event) → Follows s es end → May e end → Follows s (es ++ e ∷ []) (after e end) }
 {}
 
 /// Says that the journal grows by the entries of the run's events, in order.
 pub fn runs_tell_their_entries()
-    ensures { (es : List Event) (s end : State) → Follows s es end → end.parts.entries ≡ s.parts.entries ++ entries_along es }
+    ensures { (es : List Event) (s end : EngineState) → Follows s es end → end.parts.entries ≡ s.parts.entries ++ entries_along es }
 {}
 
 /// Says that no event takes more than one turn, and that each takes one until a stop is kept. The counters of all kinds add up to the
 /// turns.
 pub fn runs_take_turns()
-    ensures few { (es : List Event) (s end : State) → Follows s es end → end.parts.turns ≤ s.parts.turns + length es }
-    ensures going { (es : List Event) (s end : State) → Follows s es end → Sound s → end.stop ≡ None
+    ensures few { (es : List Event) (s end : EngineState) → Follows s es end → end.parts.turns ≤ s.parts.turns + length es }
+    ensures going { (es : List Event) (s end : EngineState) → Follows s es end → Sound s → end.stop ≡ None
         → end.parts.turns ≡ s.parts.turns + length es }
-    ensures counted { (s : State) → Sound s → turns_in s.counters ≡ s.parts.turns }
+    ensures counted { (s : EngineState) → Sound s → turns_in s.counters ≡ s.parts.turns }
 {}
 
 /// Says that a member that turns back may be rolled back once more.
 pub fn exhausted_members_never_turn_back()
-    ensures { (s : State) → Sound s → (seat : ℕ) (attempt : Attempt) (why : Reverse) → May (Event.TurnBack seat attempt why) s
+    ensures { (s : EngineState) → Sound s → (seat : ℕ) (attempt : Attempt) (why : Reverse) → May (Event.TurnBack seat attempt why) s
         → MayTurnBack attempt.tried.number s.parts.pool }
 {}
 
 /// Says that the answers that turned a member back are the events in which a seat turns back, and that each is counted. There are at most
 /// eight of them for each member that there ever was and for each entry.
 pub fn runs_turn_back_seldom()
-    ensures counted { (es : List Event) (s end : State) → Follows s es end → refusals end.counters ≡ refusals s.counters + count_by is_back es }
-    ensures few { (es : List Event) (s end : State) → Follows s es end → Sound s
+    ensures counted { (es : List Event) (s end : EngineState) → Follows s es end → refusals end.counters ≡ refusals s.counters + count_by is_back es }
+    ensures few { (es : List Event) (s end : EngineState) → Follows s es end → Sound s
         → refusals s.counters + count_by is_back es ≤ max_rollbacks * (end.parts.next + length end.parts.entries) }
 {}
 
 /// Says that an entry resets the rollbacks of its member, unless it is the last one, which notes how the run stopped.
 pub fn entries_take_rollbacks_off()
-    ensures { (s : State) → Sound s → (e : Event)
+    ensures { (s : EngineState) → Sound s → (e : Event)
         → All (λ entry. is_ordinary entry.kind ≡ true → rollbacks_at entry.number (after e s).parts.pool ≡ 0) (entries_told e) }
 {}

@@ -7,7 +7,7 @@ use Rattle.ame_app.specs.Calls.{what_is_given, call_of}
 use Rattle.ame_app.specs.Causes.{IsRefusedWith}
 use Rattle.ame_app.specs.Jobs.{IsJobOf}
 use Rattle.ame_app.specs.Reported.{run_view, reported}
-use Rattle.ame_app.specs.declared.parts.Own.{Own}
+use Rattle.ame_app.specs.declared.parts.ReportPart.{ReportPart}
 use Rattle.ame_app.proofs.PromisedLemmas.{job-promised, refusal-promised}
 use Rattle.ame_app.proofs.TurnedLemmas.{refusal-other}
 use Rattle.ame_app.proofs.call.run_words_over.Goals as goal
@@ -17,7 +17,7 @@ turn_away-requires g c =
     let call = call_of (map string_bytes c.args.words.now) (what_is_given g.S.Source.left g.S.Source.faults c.args.source.now)
     (what_is_given g.S.Source.left g.S.Source.faults c.asked_by_words.new.source) c.len.result in
     let refusal = c.in-Err.refusal in
-    record { other = refusal-other call refusal.text.items [] Own.Nothing refusal.told c.in-Err.ensures.refused.cause }
+    record { other = refusal-other call refusal.text.items [] ReportPart.Nothing refusal.told c.in-Err.ensures.refused.cause }
 
 pub returns-in-Ok : goal.returns-in-Ok
 returns-in-Ok g c =

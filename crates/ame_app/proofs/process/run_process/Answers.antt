@@ -3,7 +3,7 @@ use Rattle.std.specs.Prelude.{option_map, string_bytes}
 use Rattle.ame_cli.specs.declared.command.Command.{Command}
 use Rattle.ame_shell.specs.Ends.{Ends, ends_of}
 use Rattle.ame_app.specs.declared.standard.StandardDevice.{StandardDevice}
-use Rattle.ame_app.specs.declared.parts.Own.{Own}
+use Rattle.ame_app.specs.declared.parts.ReportPart.{ReportPart}
 use Rattle.ame_app.specs.declared.status.Status.{Status}
 use Rattle.ame_app.specs.Calls.{what_is_given, call_of}
 use Rattle.ame_app.specs.Causes.{IsNamed}
@@ -38,9 +38,9 @@ returns-clause-answered g c =
     answered-turned c.spells_one_command.ensures call report before after
     (ap (option_map run_view) told.run) (omega (arith, none)) (record {
       ahead = [];
-      own = Own.Nothing;
+      own = ReportPart.Nothing;
       told = Status.NoMemory;
       cause = by_memory (inl empty) (record { faults = refl; untouched = λ command spelled unread. refl });
       named = subst (λ (o : Option Command). IsNamed call o Status.NoMemory) (sym told.command) (inr refl);
-      alone = subst (λ (e : Ends). IsToldAlone [] Own.Nothing Status.NoMemory report e after) (sym same) told.alone;
+      alone = subst (λ (e : Ends). IsToldAlone [] ReportPart.Nothing Status.NoMemory report e after) (sym same) told.alone;
     }))

@@ -1,19 +1,19 @@
 use Rattle.std.proofs.Common.{◌≡◌, [], ◌∷◌, ◌++◌, OnOk, ap, sym, subst, ◌∙◌, append-nil}
 use Rattle.std.proofs.lemmas.Result.{on_ok_weaker, on_err_weaker}
 use Rattle.ame_baton.specs.Batons.{knows}
-use Rattle.ame_baton.specs.Tallies.{Counts, IsAsBefore}
+use Rattle.ame_baton.specs.Tallies.{CountsSeat, IsAsBefore}
 use Rattle.ame_baton.proofs.Counting.{Known, may_count, gave_added, gave_row}
 use Rattle.ame_baton.proofs.tally.count.Goals as goal
 
 pub give-requires-clause-may : goal.give-requires-clause-may
 give-requires-clause-may g c = let k = knows c.take-tally.new.seat in
-    let ok = subst (λ n. OnOk c.add-counted.result (Counts n c.take-tally.result c.add-counted.new.self)) c.number.ensures c.add-counted.ensures.ok in
+    let ok = subst (λ n. OnOk c.add-counted.result (CountsSeat n c.take-tally.result c.add-counted.new.self)) c.number.ensures c.add-counted.ensures.ok in
     may_count (knows c.args.seat.now) k c.take-tally.result c.add-counted.new.self c.take-tally.ensures.taken c.add-counted.result ok c.add-counted.ensures.err
 
 pub returns-clause-counted : goal.returns-clause-counted
 returns-clause-counted g c = let before : Known = knows c.args.seat.now in let taken = c.take-tally.ensures.taken in let n = c.number.result in
     let t = c.take-tally.result in let t' = c.add-counted.new.self in let after : Known = knows c.give.new.seat in
-    let all : Counts n t t' → after.own ≡ before.own ++ before.number ∷ [] = λ is. gave_added before (knows c.take-tally.new.seat) t t' taken (λ row. Unit {0}) after (n ∷ []) c.give.ensures.given is.log
+    let all : CountsSeat n t t' → after.own ≡ before.own ++ before.number ∷ [] = λ is. gave_added before (knows c.take-tally.new.seat) t t' taken (λ row. Unit {0}) after (n ∷ []) c.give.ensures.given is.log
     ∙ ap (λ m. before.own ++ m ∷ []) (c.number.ensures ∙ ap (λ (x : Known). x.number) taken.rest) in
     on_ok_weaker c.add-counted.result all c.add-counted.ensures.ok
 

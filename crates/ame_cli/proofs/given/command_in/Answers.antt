@@ -4,7 +4,7 @@ use Rattle.clap.specs.Words.{found_of, rows_of, subcommand_rows_of}
 use Rattle.clap.proofs.WalkLemmas.{raw_values-rows}
 use Rattle.ame_cli.specs.declared.item.Item.{Item}
 use Rattle.ame_cli.specs.declared.command.Options.{Options}
-use Rattle.ame_cli.specs.Items.{Word, name_of}
+use Rattle.ame_cli.specs.Items.{ArgWord, name_of}
 use Rattle.ame_cli.specs.Numbers.{numbers_within}
 use Rattle.ame_cli.specs.Rows.{named_in, texts_in, values_in}
 use Rattle.ame_cli.specs.Settings.{command_of, options_spelled}
@@ -23,9 +23,9 @@ returns c =
     let rows = rows_of found in
     let verb = c.in_ok-verb.verb in
     let words = values_in (codes "numbers") rows in
-    let values : Item → List Word = λ item. values_in (name_of item) rows in
-    let shown = λ (vs : Bor (List (Bor Word))). map (λ v. v.now) vs.now in
-    let made = λ (options : Options) (ws : List Word). option_map (λ numbers. command_with verb numbers options) (numbers_within (verb_form verb).numbers ws) in
+    let values : Item → List ArgWord = λ item. values_in (name_of item) rows in
+    let shown = λ (vs : Bor (List (Bor ArgWord))). map (λ v. v.now) vs.now in
+    let made = λ (options : Options) (ws : List ArgWord). option_map (λ numbers. command_with verb numbers options) (numbers_within (verb_form verb).numbers ws) in
     let is : subcommand_rows_of c.args.matches.now ≡ Some (c.in_ok-name.name.now, rows) =
     subcommand_is c.args.matches.now c.in_ok-name.name.now rows c.in_ok-name.ensures.name c.in_ok-name.ensures.rows in
     c.command_of.ensures

@@ -8,7 +8,7 @@ use ame_term::{Loc, NoMemory, Sort, TyNo};
 
 /// Describes the change that a visit makes to the cells.
 #[derive(Drop)]
-pub(crate) enum Change<V> {
+pub(crate) enum CellChange<V> {
     /// Not at all.
     Stays,
     /// This value is put in place.
@@ -20,7 +20,7 @@ pub(crate) enum Change<V> {
 /// Changes the cells. Takes memory for a new one.
 pub(super) fn change_memory<V: Drop>(
     memory: &mut Memory<V>,
-    change: Change<V>,
+    change: CellChange<V>,
 ) -> Result<(), NoMemory>
     requires { CanChange memory.old change }
     ensures ok { OnOk result (memory.new ≡ changed_by (λ v. v) change memory.old) }
@@ -28,12 +28,12 @@ pub(super) fn change_memory<V: Drop>(
     ensures err { OnErr result (memory.new ≡ memory.old) }
 {
     match change {
-        Change::Stays => Ok(()),
-        Change::Puts(l, value) => {
+        CellChange::Stays => Ok(()),
+        CellChange::Puts(l, value) => {
             let _ = memory.put(l, value);
             Ok(())
         }
-        Change::Makes(sort, number, value) => {
+        CellChange::Makes(sort, number, value) => {
             memory.born(sort, number, value)?;
             Ok(())
         }

@@ -7,7 +7,7 @@ ghost use Rattle.ame_engine.specs.Seen.{parts_of};
 ghost use Rattle.ame_engine.specs.Makes.{MakesAt};
 ghost use Rattle.ame_engine.specs.Visiting.{IsVisitTo, visits_at, SettlesThere, changed_by, CanChange, IsGoodChange, makes_cell};
 
-use super::change::{Change, change_memory};
+use super::change::{CellChange, change_memory};
 use super::home::send_home;
 use crate::engine::Engine;
 use crate::engine::commit::members::{join_all, make_places};
@@ -27,7 +27,7 @@ where
         seat: u32,
         attempt: Attempt,
         mut at: M,
-        change: Change<M::Value>,
+        change: CellChange<M::Value>,
     ) -> Result<(), NoMemory>
         requires task { task_at self.old.tasks seat ≡ Task.Free attempt }
         requires going { self.old.stop ≡ None }

@@ -2,7 +2,7 @@ use Rattle.std.proofs.Common.{Option, ap, arith, subst}
 use Rattle.std.specs.Prelude.{IfSome}
 use Rattle.ame_weak.specs.View.{weak_of}
 use Rattle.ame_runner.specs.Trial.{StandsAs, IsDecided}
-use Rattle.ame_runner.specs.declared.trial.Outcome.{Outcome}
+use Rattle.ame_runner.specs.declared.trial.AttemptEnd.{AttemptEnd}
 use Rattle.ame_runner.proofs.TrialLemmas.{trial-more, longer, tried-decided, ended-last}
 use Rattle.ame_runner.proofs.trial.try_member.Goals as goal
 
@@ -22,7 +22,7 @@ loop-used-preserved c = record {
 pub returns-in-Some : goal.returns-in-Some
 returns-in-Some c =
     let found =
-    subst (λ (o : Option Outcome). IfSome o (λ outcome. StandsAs outcome (weak_of c.loop-used.trial.state) × IsDecided outcome)) c.in-Some.is c.in_ok-found.ensures in
+    subst (λ (o : Option AttemptEnd). IfSome o (λ outcome. StandsAs outcome (weak_of c.loop-used.trial.state) × IsDecided outcome)) c.in-Some.is c.in_ok-found.ensures in
     tried-decided (weak_of c.args.state.now) c.args.number c.args.above.0 c.args.turns (weak_of c.loop-used.trial.state) c.loop-used.trial.kinds.items c.loop-used.trial.above
     c.end.result c.loop-used.invariant.is (ap (λ v. v.items) c.end.ensures.kinds) c.end.ensures.above (rw c.end.ensures.outcome found.0)
     c.loop-used.used (rw c.end.ensures.outcome found.1) c.loop-used.invariant.count c.loop-used-test.true (rw c.end.ensures.outcome c.end.ensures.turns)

@@ -4,7 +4,7 @@ use Rattle.ame_sim.specs.Questions.{questions, seats_of}
 use Rattle.ame_sim.specs.Strategy.{PicksSeats}
 use Rattle.ame_engine.specs.Ending.{End}
 use Rattle.ame_protocol.specs.Event.Sound.{Sound}
-use Rattle.ame_protocol.specs.Event.State.{State}
+use Rattle.ame_protocol.specs.Event.EngineState.{EngineState}
 use Rattle.ame_protocol.proofs.Event.SoundLemmas.{sound-start}
 use Rattle.ame_shell.specs.Shell.{Opening}
 use Rattle.ame_sim.specs.Picks.{picks_of}
@@ -29,8 +29,8 @@ returns-clause-played g c =
     let first = c.in-Ok-open.crew in
     let starts = c.in-Ok-open.ensures.starts in
     let seats = first.core.limits.seats in
-    let same : seats ≡ c.args.limits.seats = ap (λ (s : State). s.parts.limits.seats) starts in
-    let none = playing-none r seats first (ap (λ (s : State). s.parts.turns) starts) (ap (λ (s : State). s.parts.entries) starts) in
+    let same : seats ≡ c.args.limits.seats = ap (λ (s : EngineState). s.parts.limits.seats) starts in
+    let none = playing-none r seats first (ap (λ (s : EngineState). s.parts.turns) starts) (ap (λ (s : EngineState). s.parts.entries) starts) in
     let opening : Opening _ = record {
       code = arc_value c.args.code;
       limits = c.args.limits;
@@ -63,7 +63,7 @@ returns-clause-answers g c =
     let before = g.H.Chooser.strategy c.args.chooser.now in
     let after = g.H.Chooser.strategy c.play.new.chooser in
     let seats = c.in-Ok-open.crew.core.limits.seats in
-    let same : seats ≡ c.args.limits.seats = ap (λ (s : State). s.parts.limits.seats) c.in-Ok-open.ensures.starts in
+    let same : seats ≡ c.args.limits.seats = ap (λ (s : EngineState). s.parts.limits.seats) c.in-Ok-open.ensures.starts in
     let none = subst (λ mades. PicksSeats before (questions seats (picks_of mades)) (seats_of (picks_of mades)) before) (sym c.in-Ok.ensures.none) (λ rest. refl) in
     let picked = picks_of c.play.new.book.mades.items in
     subst (λ n. PicksSeats before (questions n picked) (seats_of picked) after) same (c.play.ensures.answers before none)

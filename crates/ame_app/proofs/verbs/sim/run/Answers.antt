@@ -1,7 +1,7 @@
 use Rattle.std.proofs.Common.{◌≤◌, ap, subst, sym}
 use Rattle.std.specs.Arc.{arc_value}
 use Rattle.ame_protocol.specs.declared.types.Limits.{Limits}
-use Rattle.ame_app.specs.declared.left.Extra.{Extra}
+use Rattle.ame_app.specs.declared.run_result.Extra.{Extra}
 use Rattle.ame_app.proofs.OverLemmas.{over-with}
 use Rattle.ame_app.proofs.PickLemmas.{picked-with, mades-low}
 use Rattle.ame_app.proofs.verbs.sim.run.Goals as goal

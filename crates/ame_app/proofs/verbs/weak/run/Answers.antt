@@ -10,7 +10,7 @@ use Rattle.ame_runner.specs.Ended.{TellsStop}
 use Rattle.ame_runner.specs.Drawn.{IsDrawn}
 use Rattle.ame_runner.specs.declared.stop.WeakStop.{WeakStop}
 use Rattle.ame_shell.specs.Ends.{Ends, ends_of}
-use Rattle.ame_app.specs.declared.left.Left.{Left}
+use Rattle.ame_app.specs.declared.run_result.RunResult.{RunResult}
 use Rattle.ame_app.specs.Jobs.{IsWeakRunMade}
 use Rattle.ame_app.proofs.LeftLemmas.{told-count}
 use Rattle.ame_app.proofs.WeakLemmas.{drawn-as}
@@ -40,7 +40,7 @@ returns g c =
     let code = arc_value c.args.code.now in
     let before = ends_of g.K.Sink.written g.K.Sink.faults tell parts.0 parts.1.items in
     let after = ends_of g.K.Sink.written g.K.Sink.faults tell parts.0 later in
-    let made : IsWeakRunMade c.args.seed c.args.turns code before (Left.Weak spoken.weak) spoken.lines.items after = record {
+    let made : IsWeakRunMade c.args.seed c.args.turns code before (RunResult.Weak spoken.weak) spoken.lines.items after = record {
       weak = spoken.weak;
       left_is = refl;
       tells = c.end_or_turns-weak.ensures.tells old new (told-count tell parts.1.items later c.weak_run-run.ensures.count)
@@ -54,5 +54,5 @@ returns g c =
       unwritten = refl;
       unfailed = refl;
     } in
-    subst (λ (e : Ends). IsWeakRunMade c.args.seed c.args.turns code c.args.io.ends (Left.Weak spoken.weak) spoken.lines.items e) (sym (ap (λ v. v.ends) c.new.ensures))
-    (subst (λ (e : Ends). IsWeakRunMade c.args.seed c.args.turns code e (Left.Weak spoken.weak) spoken.lines.items after) (ap (λ v. v.ends) c.into_parts-sink.ensures) made)
+    subst (λ (e : Ends). IsWeakRunMade c.args.seed c.args.turns code c.args.io.ends (RunResult.Weak spoken.weak) spoken.lines.items e) (sym (ap (λ v. v.ends) c.new.ensures))
+    (subst (λ (e : Ends). IsWeakRunMade c.args.seed c.args.turns code e (RunResult.Weak spoken.weak) spoken.lines.items after) (ap (λ v. v.ends) c.into_parts-sink.ensures) made)

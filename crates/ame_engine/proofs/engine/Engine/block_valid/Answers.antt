@@ -2,7 +2,7 @@ use Rattle.std.proofs.Common.{ap, refl}
 use Rattle.std.specs.Arc.{arc_value}
 use Rattle.ame_journal.specs.declared.entry.EntryKind.{EntryKind}
 use Rattle.ame_rows.specs.MemoryView.{Log}
-use Rattle.ame_protocol.specs.declared.types.Reason.{Reason}
+use Rattle.ame_protocol.specs.declared.types.UndoReason.{UndoReason}
 use Rattle.ame_protocol.specs.declared.types.Task.{Task}
 use Rattle.ame_protocol.specs.Engine.Parts.{attempt_of}
 use Rattle.ame_engine.proofs.PlaceLemmas.{places-told}
@@ -36,7 +36,7 @@ invariant_of-self-2 g c =
           c.in_ok-locs.locs.items c.in_ok-locs.ensures _ c.push.new.self.entries c.room.ensures.entries c.push.ensures.entries
           c.note.new.self c.in_ok-note.ensures.ok c.told.result c.told.ensures;
       places = places-told c.self.inside.tasks.items c.args.seat _ _ c.args.attempt (ap attempt_of is) c.self.invariant.places
-          (Task.Undoing c.told.result Reason.Noted) c.told.result refl (ap (λ a. a.logged) c.told.ensures);
+          (Task.Undoing c.told.result UndoReason.Noted) c.told.result refl (ap (λ a. a.logged) c.told.ensures);
     }
 
 pub returns-clause-noted : goal.returns-clause-noted

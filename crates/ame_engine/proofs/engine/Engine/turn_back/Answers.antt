@@ -1,5 +1,5 @@
 use Rattle.std.proofs.Common.{◌≡◌, ap, sym, subst, refl}
-use Rattle.ame_protocol.specs.declared.types.Reason.{Reason}
+use Rattle.ame_protocol.specs.declared.types.UndoReason.{UndoReason}
 use Rattle.ame_protocol.specs.declared.types.Task.{Task}
 use Rattle.ame_protocol.specs.Engine.Parts.{task_at, attempt_of}
 use Rattle.ame_engine.proofs.PlaceLemmas.{places-kept}
@@ -15,7 +15,7 @@ invariant_of-self g c =
           _ c.args.self.now c.self.view_is c.self.invariant.whole c.args.seat c.args.attempt c.args.setback c.requires.task c.requires.left c.requires.going c.requires.met
           c.count-self-inside.result c.count-self-inside.ensures;
       places = places-kept c.self.inside.tasks.items c.args.seat _ _ c.args.attempt (ap attempt_of is) c.self.invariant.places
-          (Task.Undoing c.args.attempt Reason.RolledBack) c.args.attempt refl refl;
+          (Task.Undoing c.args.attempt UndoReason.RolledBack) c.args.attempt refl refl;
     }
 
 pub returns : goal.returns

@@ -8,7 +8,7 @@ use Rattle.ame_runner.proofs.HearLemmas.{hears-still, hears-then}
 use Rattle.ame_runner.proofs.ChooseLemmas.{goes-quiet, goes-tall}
 use Rattle.ame_weak.specs.Weak.{Weak}
 use Rattle.ame_runner.specs.Choices.{goes_free}
-use Rattle.ame_runner.specs.Drawn.{MayBegin}
+use Rattle.ame_runner.specs.Drawn.{MayAttempt}
 use Rattle.ame_runner.specs.Drawing.{HasTried}
 use Rattle.ame_runner.proofs.DrawLemmas.{takes-tried, stops-tried}
 use Rattle.ame_runner.proofs.run.Run.choose_resting.Goals as goal
@@ -35,7 +35,7 @@ pub returns-in-Some-clause-taken : goal.returns-in-Some-clause-taken
 returns-in-Some-clause-taken g c =
     let old = run_of c.args.self.now in
     let mid = run_of c.attempt.new.self in
-    let may : MayBegin c.args.number old = (
+    let may : MayAttempt c.args.number old = (
       c.requires.idle,
       ap (λ (w : Weak). goes_free w c.args.number) (sym c.state.ensures) ∙ sym c.goes_free.ensures ∙ c.if-goes_free.false,
     ) in
@@ -45,7 +45,7 @@ pub returns-clause-taken : goal.returns-clause-taken
 returns-clause-taken g c =
     let old = run_of c.args.self.now in
     let mid = run_of c.attempt.new.self in
-    let may : MayBegin c.args.number old = (
+    let may : MayAttempt c.args.number old = (
       c.requires.idle,
       ap (λ (w : Weak). goes_free w c.args.number) (sym c.state.ensures) ∙ sym c.goes_free.ensures ∙ c.if-goes_free.false,
     ) in

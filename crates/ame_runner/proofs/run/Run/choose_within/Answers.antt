@@ -2,7 +2,7 @@ use Rattle.std.proofs.Common.{None, inr, refl}
 use Rattle.ame_device.specs.Calls.{all_told}
 use Rattle.ame_runner.specs.View.{run_of}
 use Rattle.ame_runner.proofs.ChooseLemmas.{goes-quiet}
-use Rattle.ame_runner.specs.Drawn.{Takes}
+use Rattle.ame_runner.specs.Drawn.{GoesOnWhenDrawn}
 use Rattle.ame_runner.proofs.DrawLemmas.{draws-member, draws-result}
 use Rattle.ame_runner.proofs.run.Run.choose_within.Goals as goal
 
@@ -23,7 +23,7 @@ pub returns-then-is_active-clause-drawn : goal.returns-then-is_active-clause-dra
 returns-then-is_active-clause-drawn g c =
     draws-member c.args.numbers.now c.one_of.new.numbers c.in_ok-number.number (run_of c.args.self.now) (run_of c.go_on.new.self) None c.in_ok-number.ensures.stream
     (c.is_spent.ensures.no c.if-is_spent.false) c.in_ok-number.ensures.some c.in_ok-number.ensures.place
-    (Takes.goes_on (c.is_active.ensures c.if-is_active.true) c.in_ok-go_on.ensures.goes)
+    (GoesOnWhenDrawn.goes_on (c.is_active.ensures c.if-is_active.true) c.in_ok-go_on.ensures.goes)
 
 pub returns-clause-drawn : goal.returns-clause-drawn
 returns-clause-drawn g c =

@@ -3,12 +3,12 @@ use Rattle.std.specs.List.{AllByRecursion}
 use Rattle.ame_term.specs.View.{tree_of, typ_of}
 use Rattle.ame_device.specs.declared.told.Told.{Told}
 use Rattle.ame_laws.proofs.Typed.Started.{accepted}
-use Rattle.ame_runner.specs.Run.{CourseView, IsOwn, HasRun, CountsNothing}
+use Rattle.ame_runner.specs.Run.{CourseView, IsOwn, HasMadeUncounted, CountsNothing}
 use Rattle.ame_runner.specs.Stop.{HearsOn}
 use Rattle.ame_runner.specs.View.{run_of}
 use Rattle.ame_runner.proofs.RunLemmas.{goes-on, ended-before}
 use Rattle.ame_runner.proofs.HearLemmas.{ok-then, hears-own}
-use Rattle.ame_runner.specs.Drawn.{GoesOn}
+use Rattle.ame_runner.specs.Drawn.{MakesNextLabel}
 use Rattle.ame_runner.proofs.DrawLemmas.{gone-on}
 use Rattle.ame_runner.proofs.run.Run.go_on.Goals as goal
 
@@ -26,7 +26,7 @@ returns-in-Some-clause-hears c =
     let a = c.args.self.now.play.accepted.now in
     let p = tree_of a.program.term in
     let refs = map typ_of a.ref_tys.items in
-    ok-then c.make.result (HasRun c.in-Some.label r q) ((told : List Told) → HearsOn None old q told told)
+    ok-then c.make.result (HasMadeUncounted c.in-Some.label r q) ((told : List Told) → HearsOn None old q told told)
     (λ made. λ told opened running heard. (
       hears-own a.devices a.program.places.items p refs
           (accepted a.devices a.program.places.items p refs a.typed) a.program.source a.program.numbered
@@ -44,12 +44,12 @@ returns-in-Some-clause-counts c =
     let old = run_of c.args.self.now in
     let r : CourseView = record old { left = c.pop_front.new.self.items } in
     let q = run_of c.make.new.self in
-    ok-then c.make.result (HasRun c.in-Some.label r q) (CountsNothing old q) (λ made. record { turns = made.turns; tries = made.tries }) c.make.ensures.made
+    ok-then c.make.result (HasMadeUncounted c.in-Some.label r q) (CountsNothing old q) (λ made. record { turns = made.turns; tries = made.tries }) c.make.ensures.made
 
 pub returns-in-Some-clause-goes : goal.returns-in-Some-clause-goes
 returns-in-Some-clause-goes c =
     let old = run_of c.args.self.now in
     let r : CourseView = record old { left = c.pop_front.new.self.items } in
     let q = run_of c.make.new.self in
-    ok-then c.make.result (HasRun c.in-Some.label r q) (GoesOn old q) (λ made. gone-on old q c.in-Some.label c.pop_front.new.self.items c.in-Some.ensures.items made)
+    ok-then c.make.result (HasMadeUncounted c.in-Some.label r q) (MakesNextLabel old q) (λ made. gone-on old q c.in-Some.label c.pop_front.new.self.items c.in-Some.ensures.items made)
     c.make.ensures.made

@@ -3,7 +3,7 @@ use Rattle.std.specs.Arc.{arc_value}
 use Rattle.ame_engine.specs.Makes.{state_of}
 use Rattle.ame_engine.specs.Seen.{parts_of}
 use Rattle.ame_protocol.specs.Engine.Events.{started}
-use Rattle.ame_protocol.specs.Event.State.{started_state}
+use Rattle.ame_protocol.specs.Event.EngineState.{started_state}
 use Rattle.ame_shell.proofs.OverLemmas.{shell-starts}
 use Rattle.ame_sim.proofs.CrewLemmas.{crew-starts}
 use Rattle.ame_sim.proofs.crew.Crew.open.Goals as goal

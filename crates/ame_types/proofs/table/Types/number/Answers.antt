@@ -1,5 +1,5 @@
 use Rattle.std.proofs.Common.{Some, ap, sym, ◌∙◌}
-use Rattle.ame_types.specs.contracts.shared.KeyPartialEq.TheImpl as key_test
+use Rattle.ame_types.specs.contracts.shared_type.KeyPartialEq.TheImpl as key_test
 use Rattle.ame_types.proofs.SharedLemmas.{inserted, key_same}
 use Rattle.ame_types.proofs.table.Types.number.Goals as goal
 

@@ -7,7 +7,7 @@ use Rattle.ame_baton.specs.Batons.{knows}
 use Rattle.ame_baton.specs.Seats.{Takes}
 use Rattle.ame_worker.specs.declared.worker.Worker.{Worker}
 use Rattle.ame_worker.specs.Holding.{HasTheTurn}
-use Rattle.ame_worker.specs.Leads.{RestsAtStop, LeadsOn}
+use Rattle.ame_worker.specs.Leads.{RestsAtStop, LeadsUntilHandover}
 use Rattle.ame_worker.specs.Led.{HasLed}
 use Rattle.ame_worker.specs.Opened.{HasRowsAndTurns}
 use Rattle.ame_worker.specs.Turns.{maker, HasHadTurns}
@@ -70,7 +70,7 @@ returns-clause-led g c =
     subst (λ work. HasLed r code limits.slice k (knows c.hand_over.new.self.seat) old work made.led.led) (sym (ap (λ x. x.work) c.hand_over.ensures.rest))
     (subst (λ x. HasLed r (arc_value x.code) x.limits.slice k (knows c.hand_over.new.self.seat) old w.work made.led.led) made.worker (c.hand_over.ensures.led holds)) in
     let same = same-limits r (λ s. shell_view s.shell.value) (λ s. s.places.items) (λ s. s.turns) code limits k (knows c.try_take.new.seat) shared c.requires.ready.seated c.in-Ok.ensures.taken in
-    inl (made.led.led, has, subst (λ (l : Limits). LeadsOn r code l.seats c.args.are_more made.led.led) same made.led.until)
+    inl (made.led.led, has, subst (λ (l : Limits). LeadsUntilHandover r code l.seats c.args.are_more made.led.led) same made.led.until)
 
 pub returns-clause-keeps : goal.returns-clause-keeps
 returns-clause-keeps g c =

@@ -1,5 +1,0 @@
-use Rattle.ame_labels.proofs.LedgerLemmas.{leaves-there}
-use Rattle.ame_labels.proofs.ledger.Ledger.leave.Goals as goal
-
-pub returns : goal.returns
-returns c = leaves-there c.args.self.now c.add.new.self c.insert.new.self c.in_ok-add.ensures c.in_ok-insert.ensures.updates.0

@@ -1,5 +1,6 @@
 -- Why words ask for nothing that can be run.
-use Rattle.std.proofs.Common.{◌≡◌, ◌≢◌, ℕ, ◌<◌, ◌≤◌, inl, inr, Bool, true, List, [], length, Option, None, Result, Ok, Err, IfOk, IfErr, refl, sym, ap, ◌∙◌, subst, arith}
+use Rattle.std.proofs.Common.{◌≡◌, ◌≢◌, ℕ, ◌<◌, ◌≤◌, inl, inr, Bool, true, List, [], length, Option, None, Result, Ok, Err, IfOk, IfErr, refl, sym}
+use Rattle.std.proofs.Common.{ap, ◌∙◌, subst, arith}
 use Rattle.std.specs.Prelude.{IsErrAnd}
 use Rattle.ame_io.specs.Reads.{whole_limit, LeftAfter, FaultsAfter}
 use Rattle.ame_io.specs.declared.whole_read.ReadAllFail.{ReadAllFail}
@@ -46,7 +47,8 @@ untaken-refusal call text named command status told none name is cause known =
     }
 
 -- words that give no command are refused, with the status of their failure
-pub words-refused : (words : List (List ℕ)) (source : Given) (devices : ℕ) (text : Text) → text ≡ [] → (fail : CliFail) (status : Status) → status ≡ words_told fail
+pub words-refused : (words : List (List ℕ)) (source : Given) (devices : ℕ) (text : Text) → text ≡ []
+    → (fail : CliFail) (status : Status) → status ≡ words_told fail
     → (fail ≡ CliFail.Usage → SpellsNothing words) → RefusalCause (call_of words source source devices) text [] ReportPart.Nothing status
 words-refused words source devices text none CliFail.Usage status e nothing =
     subst (RefusalCause (call_of words source source devices) text [] ReportPart.Nothing) (sym e) (by_words none (record { words = nothing refl; source = refl }))
@@ -67,7 +69,8 @@ module _ (words : List (List ℕ)) (source after : Given) (devices : ℕ) (comma
   reader = record { command = command; spelled = spelled; reads = reads }
 
   pub source-refused : (one : SpellOne) (fail : ReadAllFail) (status : Status) → status ≡ source_told fail
-      → LeftAfter fail source.left after.left → FaultsAfter fail source.faults after.faults → RefusalCause (call_of words source after devices) [] [] ReportPart.Nothing status
+      → LeftAfter fail source.left after.left → FaultsAfter fail source.faults after.faults
+      → RefusalCause (call_of words source after devices) [] [] ReportPart.Nothing status
   source-refused one ReadAllFail.ReadFault status e left faults =
       subst (RefusalCause (call_of words source after devices) [] [] ReportPart.Nothing) (sym e) (by_source refl (record { reader = reader; faults = faults }))
   source-refused one ReadAllFail.TooLong status e left faults =

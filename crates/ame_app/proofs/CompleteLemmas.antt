@@ -1,5 +1,6 @@
 -- The status that a call must have.
-use Rattle.std.proofs.Common.{◌≡◌, ◌≢◌, ◌⊎◌, inl, inr, ℕ, ◌<◌, ◌≤◌, List, ◌++◌, length, Option, Some, None, Result, Ok, Err, IfSome, refl, sym, ap, ◌∙◌, subst, arith}
+use Rattle.std.proofs.Common.{◌≡◌, ◌≢◌, ◌⊎◌, inl, inr, ℕ, ◌<◌, ◌≤◌, List, ◌++◌, length, Option, Some, None, Result, Ok, Err, IfSome, refl, sym, ap}
+use Rattle.std.proofs.Common.{◌∙◌, subst, arith}
 use Rattle.ame_io.specs.Counts.{HasNotRisen}
 use Rattle.ame_io.specs.Reads.{whole_limit}
 use Rattle.ame_io.specs.Lines.{lines}
@@ -38,7 +39,8 @@ use Rattle.ame_app.specs.Texts.{why_of, IsNoProgram, IsIllTyped, IsAcceptedText}
 use Rattle.ame_app.specs.Causes.{RefusalCause, RunCause, CommandCause, status_at, status_of}
 use Rattle.ame_app.specs.Causes.RefusalCause.{by_words, by_source, by_length, by_input, by_text, by_types, by_program, by_memory}
 use Rattle.ame_app.specs.Headline.{DevicesTell, DevicesTellIfAble, DevicesTellOf, Headline, IsTurnedAway, IsWritten, verdict_of}
-use Rattle.ame_app.specs.Complete.{IsGivenBytes, IsGivenText, IsGivenInVain, IsUnread, IsRefused, NothingFailed, IsUnlessMemory, TellsFault, TellsRule, TellsEnd, TellsEndWith, TellsOutcome, TellsInput, TellsDevice, IsComplete}
+use Rattle.ame_app.specs.Complete.{IsGivenBytes, IsGivenText, IsGivenInVain, IsUnread, IsRefused, NothingFailed, IsUnlessMemory, TellsFault, TellsRule}
+use Rattle.ame_app.specs.Complete.{TellsEnd, TellsEndWith, TellsOutcome, TellsInput, TellsDevice, IsComplete}
 use Rattle.ame_app.specs.Answered.{IsPromised}
 use Rattle.ame_app.specs.Verdict.{verdict}
 use Rattle.ame_app.proofs.VerbLemmas.{takes-one, takes-none, declines-one, settles-one, settles-same, begins-unsettled}
@@ -101,7 +103,8 @@ data Due (command : Command) (bytes : List ℕ) (devices : ℕ) (status : Status
       → length bytes ≤ whole_limit → Due command bytes devices status
   is_refused : (front : Front) (text : Text) (fault : TypeFault) → status ≡ Status.Types fault → TakesInput command bytes front text
       → IsIllTyped text devices fault → length bytes ≤ whole_limit → Due command bytes devices status
-  is_settled : (front : Front) (text : Text) (good : IsAcceptedText text devices) (ahead : List ℕ) (own : ReportPart) → Settles command front good.source.tree ahead own status
+  is_settled : (front : Front) (text : Text) (good : IsAcceptedText text devices) (ahead : List ℕ) (own : ReportPart)
+      → Settles command front good.source.tree ahead own status
       → TakesInput command bytes front text → length bytes ≤ whole_limit → Due command bytes devices status
   is_run : (front : Front) (text : Text) (good : IsAcceptedText text devices) → TellsEndWith (options_of command) status
       → ((ahead : List ℕ) (own : ReportPart) (told : Status) → Settles command front good.source.tree ahead own told → ⊥)
@@ -126,7 +129,8 @@ typed-same text devices one other fault reads again typed breaks =
     err-ok (typing devices other.places other.tree) Typ.Unit fault (subst (λ (s : Source). typing devices s.places s.tree ≡ Ok Typ.Unit) same typed) breaks
 
 -- one text is read as one program
-read-same : (text also : Text) (devices : ℕ) → text ≡ also → (one : IsAcceptedText text devices) (other : IsAcceptedText also devices) → one.source ≡ other.source
+read-same : (text also : Text) (devices : ℕ) → text ≡ also
+    → (one : IsAcceptedText text devices) (other : IsAcceptedText also devices) → one.source ≡ other.source
 read-same text also devices same one other =
     let both : Ok one.source ≡ Ok other.source = sym one.reads ∙ ap reading same ∙ other.reads in
     cc
@@ -234,7 +238,8 @@ asked-stays call command front text asked =
     input-stays (reads_source command) call.source call.source_after asked.text_is.bytes asked.text_is.input
 
 module _ (one : SpellOne) (call : Call) (report : Text) where
-  usage-refusal : (ahead : List ℕ) (own : ReportPart) (told : Status) → SpellsNothing call.words → RefusalCause call report ahead own told → IsUnlessMemory Status.Usage told
+  usage-refusal : (ahead : List ℕ) (own : ReportPart) (told : Status) → SpellsNothing call.words
+      → RefusalCause call report ahead own told → IsUnlessMemory Status.Usage told
   usage-refusal ahead own told nothing (by_words none u) = inl refl
   usage-refusal ahead own told nothing (by_source none r) = absurd (nothing r.reader.command r.reader.spelled)
   usage-refusal ahead own told nothing (by_length none long) = absurd (nothing long.reader.command long.reader.spelled)
@@ -259,7 +264,8 @@ module _ (one : SpellOne) (call : Call) (report : Text) where
       inr (inr (s.front, tree, inl (bytes, held, settles)))
   text-refusal ahead own told command spelled still (by_memory text_is c) = inl tt
 
-  source-refusal : (ahead : List ℕ) (own : ReportPart) (told : Status) → call.source.faults < call.source_after.faults → RefusalCause call report ahead own told → told ≡ Status.ReadFault
+  source-refusal : (ahead : List ℕ) (own : ReportPart) (told : Status) → call.source.faults < call.source_after.faults
+      → RefusalCause call report ahead own told → told ≡ Status.ReadFault
   source-refusal ahead own told rises (by_words none u) = absurd (let stayed = ap (λ (g : Given). g.faults) u.source in omega (arith, stayed, rises))
   source-refusal ahead own told rises (by_source none r) = refl
   source-refusal ahead own told rises (by_length none long) = absurd (let stayed = long.faults in omega (arith, stayed, rises))
@@ -302,7 +308,8 @@ module _ (call : Call) (before after : Ends) (n : NothingFailed call before afte
   run-told (Command.Weak seed turns) told options end r c = weak-told seed turns told options end r c
 
 module _ (one : SpellOne) (call : Call) (before after : Ends) (n : NothingFailed call before after) (bytes : List ℕ) (given : IsGivenBytes call bytes) where
-  due-refusal : (report : Text) (ahead : List ℕ) (own : ReportPart) (told : Status) → RefusalCause call report ahead own told → Due given.command bytes call.devices told
+  due-refusal : (report : Text) (ahead : List ℕ) (own : ReportPart) (told : Status)
+      → RefusalCause call report ahead own told → Due given.command bytes call.devices told
   due-refusal report ahead own told (by_words none u) = absurd (u.words given.command given.spelled)
   due-refusal report ahead own told (by_source none r) = absurd (HasNotRisen-excludes call.source.faults call.source_after.faults n.source r.faults)
   due-refusal report ahead own told (by_length none long) = is_long refl (given-more one call bytes given whole_limit long.reader long.given)

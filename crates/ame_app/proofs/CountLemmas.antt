@@ -1,5 +1,6 @@
 -- There are as many certificates as members.
-use Rattle.std.proofs.Common.{Less, ◌≡◌, ℕ, zero, suc, ◌<◌, ◌⊎◌, inl, inr, Bool, true, false, cond, List, [], ◌∷◌, map, length, All, Some, refl, sym, ap, ◌∙◌, subst, arith}
+use Rattle.std.proofs.Common.{Less, ◌≡◌, ℕ, zero, suc, ◌<◌, ◌⊎◌, inl, inr, Bool, true, false, cond, List, [], ◌∷◌, map, length, All, Some, refl, sym}
+use Rattle.std.proofs.Common.{ap, ◌∙◌, subst, arith}
 use Rattle.std.specs.Prelude.{Contains, IsSome, slice_index_or}
 use Rattle.std.specs.List.{AllByRecursion}
 use Rattle.std.specs.List.Sorted.{IsStrictlySortedBy}
@@ -87,7 +88,8 @@ module _ {X : Type 0} where
   found-named [] n some = absurd (let clash : false ≡ true = some in cc)
   found-named (e ∷ es) n some = by (is_at (nat_cmp n) e.0) refl some (λ later. found-named es n later)
     where
-      by : (b : Bool) → is_at (nat_cmp n) e.0 ≡ b → IsSome (cond b (Some e.1) (at es n)) → (IsSome (at es n) → Contains (keys_of es) n) → Contains (keys_of (e ∷ es)) n
+      by : (b : Bool) → is_at (nat_cmp n) e.0 ≡ b → IsSome (cond b (Some e.1) (at es n))
+          → (IsSome (at es n) → Contains (keys_of es) n) → Contains (keys_of (e ∷ es)) n
       by true is some go = here e.0 n (keys_of es) (sym (is_at-same n e.0 is))
       by false is some go = more e.0 n (keys_of es) (go some)
 

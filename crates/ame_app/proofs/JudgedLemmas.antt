@@ -1,5 +1,6 @@
 -- An input is split in one way, within it, and a journal is judged in one way.
-use Rattle.std.proofs.Common.{◌≡◌, ◌⊎◌, inl, inr, ℕ, ◌+◌, ◌-◌, ◌<◌, ◌≤◌, ℤ, List, length, take, drop, codes, Some, None, sym, ap, ◌∙◌, subst, arith, take-take, length-append, length-drop}
+use Rattle.std.proofs.Common.{◌≡◌, ◌⊎◌, inl, inr, ℕ, ◌+◌, ◌-◌, ◌<◌, ◌≤◌, ℤ, List, length, take, drop, codes, Some, None, sym, ap, ◌∙◌, subst, arith}
+use Rattle.std.proofs.Common.{take-take, length-append, length-drop}
 use Rattle.std.proofs.lemmas.List.Sums.{sum_by-take-le}
 use Rattle.ame_term.specs.Tree.{Tree}
 use Rattle.ame_journal.specs.Replayed.{Replayed}

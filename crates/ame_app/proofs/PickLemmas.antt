@@ -93,7 +93,7 @@ module _ (limits : Limits) (before : Ends) (strategy later : List (List ℕ) →
     answers = answers;
   }
 
-  -- so it is for the code of which a share was run, with limits for which options ask
+  -- so it is for the code whose share was run, with limits for which options ask
   pub picked-with : (options : Options) (code share : FlatCode) → share ≡ code → limits ≡ limits_of options
       → IsPlayed fragments (opening_of share limits before) mades end
       → PicksSeats strategy (questions limits.seats (picks_of mades)) (seats_of (picks_of mades)) later

@@ -1,4 +1,4 @@
--- What is promised of a call that asks for a job, and of one that is refused.
+-- The promises of a call that asks for a job, and of one that is refused.
 use Rattle.std.proofs.Common.{◌≡◌, ◌≢◌, ◌≤◌, ◌⊎◌, inl, inr, ℕ, List, [], length, Option, None, IfSome, sym, ap, subst, arith, ◌∙◌}
 use Rattle.ame_lex.specs.Bytes.{Text}
 use Rattle.ame_code.specs.FlatCode.{FlatCode}
@@ -46,7 +46,7 @@ module _ (one : SpellOne) (call : Call) (report : Reported) (before after : Ends
         alone = alone;
       })
 
--- what is told of a job without a run is no fault of the sink
+-- the status reported for a job without a run is no fault of the sink
 pub left-other : (command : Command) (front : Front) (code : FlatCode) (ahead : List ℕ) (own : ReportPart) (told : Status)
     → Settles command front (program_of code) ahead own told ⊎ ((ahead ≡ []) × (own ≡ ReportPart.Nothing) × (told ≡ Status.NoMemory)) → told ≢ Status.WriteFault
 left-other command front code ahead own told (inl settles) = settles-other command front (program_of code) ahead own told settles

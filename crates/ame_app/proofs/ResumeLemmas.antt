@@ -63,7 +63,8 @@ end-is entries entry last is =
 -- if the entry that passes a form nested too deeply is no note, that is the status
 pub tells-tall : (program : Tree) (entries : List Entry) (place : ℕ) (last : Entry) → IsTallAt program entries place
     → slice_get (take place entries) (length (take place entries) - 1) ≡ Some last → is_note last.kind ≡ false
-    → (ahead : List ℕ) (own : ReportPart) (told : Status) → ahead ≡ [] → own ≡ ReportPart.Nothing → told ≡ Status.TallJournal (length (without_notes (take place entries)))
+    → (ahead : List ℕ) (own : ReportPart) (told : Status) → ahead ≡ [] → own ≡ ReportPart.Nothing
+    → told ≡ Status.TallJournal (length (without_notes (take place entries)))
     → TellsOfBase program entries ahead own told
 tells-tall program entries place last tall is note ahead own told ahead_is own_is told_is =
     let passes = tall.there.passes in
@@ -122,7 +123,8 @@ module _ (program : Tree) (entries : List Entry) where
   high-one : (m n : ℕ) → IsTooHighAt program entries m → IsTooHighAt program entries n → m ≡ n
   high-one m n one two = one-number m n (λ below. two.first m below one.passes) (λ above. one.first n above two.passes)
 
-  tall-one : (ahead more : List ℕ) (own also : ReportPart) (m n : ℕ) → IsTallJournal program entries ahead own m → IsTallJournal program entries more also n → m ≡ n
+  tall-one : (ahead more : List ℕ) (own also : ReportPart) (m n : ℕ) → IsTallJournal program entries ahead own m
+      → IsTallJournal program entries more also n → m ≡ n
   tall-one ahead more own also m n one two =
       one.count ∙ ap (λ (k : ℕ). length (without_notes (take k entries))) (high-one one.place two.place one.tall.there two.tall.there) ∙ sym two.count
 

@@ -45,7 +45,8 @@ use Rattle.ame_app.specs.Causes.{status_at, status_of, RunCause, CommandCause}
 use Rattle.ame_app.specs.RunResult.{end_in, extra_in}
 use Rattle.ame_app.specs.Reported.{RunView, Reported}
 use Rattle.ame_app.specs.Headline.{limits_of, Headline, DevicesTell, DevicesTellOf, IsNotedOnceBy, IsRanOf, ShowsTurns, journal_of, verdict_of, IsWritten}
-use Rattle.ame_app.specs.Jobs.{IsJobOf, HasWeakStop, TellsWeakly, IsLeftOf, HasLeft, IsEngineRunMade, IsWeakRunMade, IsRunMade, Speaks, SpeaksBehind, SpeaksAfter}
+use Rattle.ame_app.specs.Jobs.{IsJobOf, HasWeakStop, TellsWeakly, IsLeftOf, HasLeft, IsEngineRunMade, IsWeakRunMade, IsRunMade, Speaks, SpeaksBehind}
+use Rattle.ame_app.specs.Jobs.{SpeaksAfter}
 use Rattle.ame_app.specs.Verbs.{BeginsFrom, written_behind}
 use Rattle.ame_app.specs.Verbs.Weak.{alone_with, IsDrawnAs}
 use Rattle.ame_app.proofs.WrittenLemmas.{after-lines, written-once, tells-fault, spoken-is}
@@ -317,14 +318,16 @@ module _ (call : Call) (status : Status) (text : Text) (code : FlatCode) (front 
 
   -- a command whose run an engine makes, with something next to the engine's end
   engine-told : (command : Command) (left : RunResult) (extra : Extra) (ahead : List ℕ) → IsJobOf call text code command front
-      → IsEngineRunMade command front code before left mid → extra_in left ≡ Some extra → IsPlain code command (end_in left) before after → Spoken command left ahead
+      → IsEngineRunMade command front code before left mid → extra_in left ≡ Some extra
+      → IsPlain code command (end_in left) before after → Spoken command left ahead
       → Headline call (report_with status text code command left) (run_with code left) (end_in left) before after
   engine-told command left extra ahead job made is plain speaks =
       engine-headline command left job made plain
       (speaks-engine left extra ahead (status_of (end_in left)) (more command left) status mid.written mid.write_faults after.written after.write_faults is speaks)
 
   -- each command
-  pub headline : (command : Command) (left : RunResult) (ahead : List ℕ) → IsJobOf call text code command front → IsRunMade command front code before left ahead mid
+  pub headline : (command : Command) (left : RunResult) (ahead : List ℕ) → IsJobOf call text code command front
+      → IsRunMade command front code before left ahead mid
       → Spoken command left ahead → Headline call (report_with status text code command left) (run_with code left) (end_in left) before after
   headline (Command.Run options) left ahead job made speaks =
       engine-told (Command.Run options) left _ ahead job made made.own_is (record { devices = λ d. d; cause = λ o r c. c; once = λ n. n; shown = λ l s. s; ran = λ l r. r }) speaks

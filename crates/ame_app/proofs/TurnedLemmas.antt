@@ -20,7 +20,8 @@ use Rattle.ame_app.specs.Causes.RefusalCause.{by_words, by_source, by_length, by
 use Rattle.ame_app.proofs.VerbLemmas.{declines-other, settles-other}
 
 -- the status of such a call is no fault of the sink
-pub refusal-other : (call : Call) (text : Text) (ahead : List ℕ) (own : ReportPart) (told : Status) → RefusalCause call text ahead own told → told ≢ Status.WriteFault
+pub refusal-other : (call : Call) (text : Text) (ahead : List ℕ) (own : ReportPart) (told : Status)
+    → RefusalCause call text ahead own told → told ≢ Status.WriteFault
 refusal-other call text ahead own told (by_input other none d) = declines-other d.command d.bytes other d.declines
 refusal-other call text ahead own told (by_words none u) = λ e. absurd (cc)
 refusal-other call text ahead own told (by_source none r) = λ e. absurd (cc)
@@ -57,7 +58,8 @@ module _ (one : SpellOne) (call : Call) where
   asked-left command front text asked = input-left command asked.spelled asked.text_is.bytes asked.text_is.input
 
   -- no run was begun of a job
-  pub left-turned : (command : Command) (front : Front) (code : FlatCode) (report : Reported) (before after : Ends) → IsJobOf call report.text code command front
+  pub left-turned : (command : Command) (front : Front) (code : FlatCode) (report : Reported) (before after : Ends)
+      → IsJobOf call report.text code command front
       → IsLeft command front code report before after → IsTurnedAway call report before after
   left-turned command front code report before after job left =
       record {

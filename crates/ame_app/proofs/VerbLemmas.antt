@@ -84,7 +84,8 @@ settles-other (Command.Weak seed turns) front program ahead own told settles = a
 -- a program has one status, whichever front is taken of the same bytes
 pub settles-same : (command : Command) (bytes : List ℕ) (front other : Front) (text also : Text)
     → TakesInput command bytes front text → TakesInput command bytes other also
-    → (program : Tree) (ahead : List ℕ) (own : ReportPart) (told : Status) → Settles command front program ahead own told → Settles command other program ahead own told
+    → (program : Tree) (ahead : List ℕ) (own : ReportPart) (told : Status)
+    → Settles command front program ahead own told → Settles command other program ahead own told
 settles-same (Command.Run options) bytes front other text also one two program ahead own told settles = settles
 settles-same (Command.Bench seed size options) bytes front other text also one two program ahead own told settles = settles
 settles-same (Command.Sim seed options) bytes front other text also one two program ahead own told settles = settles

@@ -1,5 +1,7 @@
 -- The end and the journal of a weak run, once its labels are straightened.
-use Rattle.std.proofs.Common.{◌≡◌, ◌≢◌, ℕ, zero, suc, ◌+◌, ◌*◌, ◌<◌, ◌≤◌, ◌==◌, ◌⊎◌, inl, inr, Bool, true, false, List, [], ◌∷◌, ◌++◌, map, length, drop, cond, All, Option, Some, None, is_some, option_and_then, if◌then◌else◌, refl, sym, ap, ◌∙◌, subst, arith, append_assoc, append-nil, ℤ}
+use Rattle.std.proofs.Common.{◌≡◌, ◌≢◌, ℕ, zero, suc, ◌+◌, ◌*◌, ◌<◌, ◌≤◌, ◌==◌, ◌⊎◌, inl, inr, Bool, true, false, List, [], ◌∷◌, ◌++◌, map, length}
+use Rattle.std.proofs.Common.{drop, cond, All, Option, Some, None, is_some, option_and_then, if◌then◌else◌, refl, sym, ap, ◌∙◌, subst, arith}
+use Rattle.std.proofs.Common.{append_assoc, append-nil, ℤ}
 use Rattle.std.specs.Prelude.{Contains, IsSome, ◌||◌, slice_get, option_to_list}
 use Rattle.std.specs.List.{AllByRecursion, list_any}
 use Rattle.std.proofs.lemmas.Bool.{eqb-true, eq-eqb, ne_eqb}
@@ -145,11 +147,13 @@ behind-more : (n : ℕ) (ts : List Try) (t : Try) → (t.after == n) ≡ false �
 behind-more n [] t later = ap (λ (b : Bool). if b then [] else t ∷ []) later
 behind-more n (u ∷ us) t later = by (u.after == n) (behind-more n us t later)
   where
-    by : (b : Bool) → tries_behind n (us ++ t ∷ []) ≡ tries_behind n us ++ t ∷ [] → (if b then tries_behind n (us ++ t ∷ []) else u ∷ (us ++ t ∷ [])) ≡ (if b then tries_behind n us else u ∷ us) ++ t ∷ []
+    by : (b : Bool) → tries_behind n (us ++ t ∷ []) ≡ tries_behind n us ++ t ∷ []
+        → (if b then tries_behind n (us ++ t ∷ []) else u ∷ (us ++ t ∷ [])) ≡ (if b then tries_behind n us else u ∷ us) ++ t ∷ []
     by true rest = rest
     by false rest = refl
 
-noted-last : (n m : ℕ) (ts : List Try) (t : Try) → m ≡ n → AreTriesInOrder n m (ts ++ t ∷ []) → t.after ≡ n → noted_tries n (ts ++ t ∷ []) ≡ noted_tries n ts ++ note_for t ∷ []
+noted-last : (n m : ℕ) (ts : List Try) (t : Try) → m ≡ n → AreTriesInOrder n m (ts ++ t ∷ []) → t.after ≡ n
+    → noted_tries n (ts ++ t ∷ []) ≡ noted_tries n ts ++ note_for t ∷ []
 noted-last n m [] t end order same = ap (λ (b : Bool). if b then note_for t ∷ [] else []) (eq-eqb t.after n same)
 noted-last n m (u ∷ us) t end order same =
     let low : n ≤ u.after = order.0 in
@@ -194,7 +198,8 @@ module _ (labels : List Label) (tries : List Try) where
   ordinary : AreFailedTries tries → AreOrdinary entries
   ordinary failed = every-entry IsOrdinary label-ordinary 0 tries outset labels (note-ordinary tries failed)
 
-  spent-notes : AreTriesInOrder 0 (length labels) tries → AreFailedTries tries ⊎ CutAt (length labels) tries → AreOrdinary entries ⊎ EndsWith EntryKind.Cut entries
+  spent-notes : AreTriesInOrder 0 (length labels) tries → AreFailedTries tries ⊎ CutAt (length labels) tries
+      → AreOrdinary entries ⊎ EndsWith EntryKind.Cut entries
   spent-notes order (inl failed) = inl (ordinary failed)
   spent-notes order (inr cut) = by cut.last.failing refl
     where
@@ -330,7 +335,8 @@ none-or : {X : Type 0} (o : Option X) (P : Type 0) → (o ≡ None → P) → ((
 none-or None P none some = none refl
 none-or (Some x) P none some = some x refl
 
-stands-so : (s : State) (signature : Signature) (cells : StoreTyping) → IsTyped signature cells s → (device : ℕ) → StandsAtCall (holding_none s) device → StandsAtCallOf s device
+stands-so : (s : State) (signature : Signature) (cells : StoreTyping) → IsTyped signature cells s → (device : ℕ)
+    → StandsAtCall (holding_none s) device → StandsAtCallOf s device
 unfolding act_of
 stands-so s signature cells typed device stands =
     let told : TellsOfMember s stands.number (next_of s (Some stands.number)) = tells s signature cells typed (Some stands.number) (next_of s (Some stands.number)) refl in
@@ -406,7 +412,8 @@ abbrev HoldsAtEnd : WeakStop → State → Type 0
 HoldsAtEnd (WeakStop.Tall entry) s = IsTallIn s entry
 HoldsAtEnd stop s = Unit {0}
 
-holds-told : (program : Tree) (limit : ℕ) (labels : List Label) (tries : List Try) (turns : ℕ) (before after : List Told) (stop : WeakStop) (w : Weak) → IsWeakRun program labels w
+holds-told : (program : Tree) (limit : ℕ) (labels : List Label) (tries : List Try) (turns : ℕ) (before after : List Told) (stop : WeakStop) (w : Weak)
+    → IsWeakRun program labels w
     → TellsStop program limit labels tries turns before after stop → HoldsAtEnd stop w.state
 holds-told program limit labels tries turns before after (WeakStop.Tall entry) w leads tells = (tells.cause w leads).0
 holds-told program limit labels tries turns before after WeakStop.Finished w leads tells = tt
@@ -527,7 +534,8 @@ record IsLastOf (stop : WeakStop) (w : Weak) : Type 0 where
   notes : notes_of_stop stop ≡ option_to_list last
   grows : IsNoteAtEnd last w
 
-last-of : (program : Tree) (limit : ℕ) (labels : List Label) (tries : List Try) (turns : ℕ) (before after : List Told) (stop : WeakStop) (w : Weak) → IsWeakRun program labels w
+last-of : (program : Tree) (limit : ℕ) (labels : List Label) (tries : List Try) (turns : ℕ) (before after : List Told) (stop : WeakStop) (w : Weak)
+    → IsWeakRun program labels w
     → TellsStop program limit labels tries turns before after stop → IsLastOf stop w
 last-of program limit labels tries turns before after (WeakStop.Tall entry) w leads tells = record { last = Some entry; notes = refl; grows = tells.cause w leads }
 last-of program limit labels tries turns before after WeakStop.Finished w leads tells = record { last = None; notes = refl; grows = tt }
@@ -573,7 +581,9 @@ module _ (signature : Signature) (program : Tree) (straightens : Straightens pro
   -- a weak run that was made keeps what the headline needs
   pub weak-tells : (limit : ℕ) (labels : List Label) (tries : List Try) (turns : ℕ) (stop : WeakStop) (weakened : WeakEnd)
       → IsWeakRunOf program limit labels tries stop → weakened.labels.items ≡ labels → weakened.tries.items ≡ tries
-      → weakened.journal.entries ≡ journal_of_run labels tries stop → weakened.turns ≡ turns → weakened.stop ≡ stop_told stop → weakened.certificates.items ≡ certificates_told stop → (before after : List Told) → length after ≡ length before
+      → weakened.journal.entries ≡ journal_of_run labels tries stop → weakened.turns ≡ turns
+      → weakened.stop ≡ stop_told stop → weakened.certificates.items ≡ certificates_told stop
+      → (before after : List Told) → length after ≡ length before
       → TellsStop program limit labels tries turns before after stop → TellsWeakly program limit weakened before after
   weak-tells limit labels tries turns stop weakened made labels_are tries_are entries_are turns_are stop_is certified before after count tells =
       let w = made.ends.weak in
@@ -632,7 +642,8 @@ module _ (signature : Signature) (program : Tree) (straightens : Straightens pro
 
 -- The numbers of its seed
 
-counted-of : (program : Tree) (limit : ℕ) (labels : List Label) (tries : List Try) (turns : ℕ) (before after : List Told) (stop : WeakStop) → stop ≢ WeakStop.NoMemory
+counted-of : (program : Tree) (limit : ℕ) (labels : List Label) (tries : List Try) (turns : ℕ) (before after : List Told) (stop : WeakStop)
+    → stop ≢ WeakStop.NoMemory
     → TellsStop program limit labels tries turns before after stop → IsCounted stop (length labels + turns_of_tries tries) turns
 counted-of program limit labels tries turns before after WeakStop.Finished able tells = tells.counted
 counted-of program limit labels tries turns before after (WeakStop.Blocked certificates) able tells = tells.counted

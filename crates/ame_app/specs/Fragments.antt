@@ -1,4 +1,4 @@
--- What code, values and machines of programs mean.
+-- The meaning of code, values and machines of programs.
 use Rattle.ame_laws.specs.Typed.Listed.{signature_of}
 use Rattle.ame_machine.specs.Meaning.{Meaning}
 use Rattle.ame_code.specs.FlatCode.{FlatCode}

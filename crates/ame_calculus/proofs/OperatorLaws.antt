@@ -1,4 +1,4 @@
--- What each operator becomes at two integers, by the table.
+-- The reduct of each operator at two integers, by the table.
 use Rattle.std.specs.Prelude.{◌≡◌, ℤ, int_lt, refl}
 use Rattle.std.specs.Int.{w64, int_wrapping_add, int_wrapping_sub, int_wrapping_mul}
 use Rattle.std.specs.Ordering.{int_eq}

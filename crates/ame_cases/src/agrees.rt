@@ -14,7 +14,7 @@ use ame_value::Val;
 use std::alloc::Global;
 
 /// Returns whether a run's journal can be replayed, and the run left the output, the integers in the cells and the members to which it
-/// leads. The devices heard as many calls as the journal has. A note of a value that is too high isn't replayed.
+/// leads. The devices heard as many calls as the journal has. A note of a value nested too deeply isn't replayed.
 pub fn agrees(alloc: Global, report: &CaseReport, run: &Ran) -> Result<bool, Fault> {
     let program = copy_term(alloc, &run.code.accepted().program.term)?;
     let entries = without_tall(report.journal());
@@ -29,7 +29,7 @@ pub fn agrees(alloc: Global, report: &CaseReport, run: &Ran) -> Result<bool, Fau
     }
 }
 
-/// Returns the entries before a last note of a value that is too high.
+/// Returns the entries before a last note of a value nested too deeply.
 fn without_tall(entries: &[Entry]) -> &[Entry] {
     match entries.split_last() {
         Some((last, before)) if last.kind == EntryKind::Tall => before,

@@ -1,4 +1,4 @@
--- Journals that pass no form that would become a value that is too high.
+-- Journals that pass no form that would become a value nested too deeply.
 use Rattle.std.specs.Prelude.{ℕ, List}
 use Rattle.ame_term.specs.Tree.{Tree}
 use Rattle.ame_journal.specs.declared.entry.Entry.{Entry}

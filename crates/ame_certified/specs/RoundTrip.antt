@@ -10,7 +10,7 @@ IsRoundTrip output (judged.Invalid n why) = ⊥
 IsRoundTrip output (judged.Long n) = ⊤
 IsRoundTrip output (judged.Tall n) = ⊥
 
--- so it is, or an entry passes a form that would become a value that is too high
+-- so it is, or an entry passes a form that would become a value nested too deeply
 abbrev pub IsNeverInvalid : List ℤ → Judged → Type 0
 IsNeverInvalid output (judged.Valid lines) = lines.items ≡ output
 IsNeverInvalid output (judged.Invalid n why) = ⊥

@@ -29,7 +29,7 @@ at-itself reads l k = elim (at-put reads l l k) [
   | inr other ↦ absurd (other.0 refl)
 ]
 
--- A member that comes to read a location after as many steps as a machine made stands where that does, which wants the same.
+-- A member that comes to read a location after as many steps as a machine made stands at the machine's place, and wants the same.
 module _ {C V M : Type 0} (meaning : Meaning C V M) (code : C) (sound : (m : M) → meaning.is_machine code m → IsSoundStage (meaning.stage code m))
     (s : State) (i : ℕ) (fresh : List ℕ) (cells overlay : List (ℕ × Stored V)) (m : M) (side : Side) (n total : ℕ) (within : n ≤ total) where
   pub wants-it : IsAtStep meaning code s i fresh cells overlay m side n → (want : Wants) → (meaning.stage code m).want ≡ Some want

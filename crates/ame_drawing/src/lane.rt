@@ -26,7 +26,7 @@ pub enum Fate {
     RolledBack,
     /// It came to a false condition.
     Stuck,
-    /// It came to a value that is too high.
+    /// It came to a value nested too deeply.
     Tall,
     /// The turns were used up.
     Cut,

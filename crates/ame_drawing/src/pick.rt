@@ -23,7 +23,7 @@ pub enum Did {
     Left,
     /// Its member came to a condition that is false, and turned back.
     Noted,
-    /// Its member came to a value that is too high.
+    /// Its member came to a value nested too deeply.
     GrewTall,
     /// It visited a member that is inside, which is home again.
     CameHome,

@@ -34,7 +34,7 @@ use Rattle.ame_engine.specs.Makes.{Makes, MakesAt}
 use Rattle.ame_machine.specs.Meaning.{Meaning}
 use Rattle.ame_machine.specs.RefSorts.{IsRefForm}
 
--- Unprotected code has come so far: it is to be fed what it wants, or it has made steps alone, and its next value isn't too high.
+-- Unprotected code has come so far: it is to be fed what it wants, or it has made steps alone, and its next value isn't nested too deeply.
 pub record IsVisiting (s : MachineView) : Type 0 where
   pub inside : s.inside ≡ true
   pub moved : takes_input s.want ≡ false → 0 < s.steps

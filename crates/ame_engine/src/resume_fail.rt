@@ -9,7 +9,7 @@ use ame_term::NoMemory;
 pub enum ResumeFail {
     /// This entry is the first with a new location that is too far for an engine's cells: 4,000,000 or more. It is looked for first.
     Far(u64),
-    /// This entry is the first that passes a form whose value would be too high for a machine.
+    /// This entry is the first that passes a form whose value would be nested too deeply for a machine.
     Tall(u64),
     /// No more memory is there.
     NoMemory,

@@ -130,7 +130,8 @@ both-ways output other (judged.Long n) never round = tt
 both-ways output other (judged.Tall n) never round = round
 
 -- an engine makes the run, or it is a weak one
-made-so : (command : Command) (front : Front) (code : FlatCode) (limits : Limits) (before : Ends) (left : RunResult) → Promises command front code limits before left
+made-so : (command : Command) (front : Front) (code : FlatCode) (limits : Limits) (before : Ends) (left : RunResult)
+    → Promises command front code limits before left
     → IsByEngine command ⊎ ((seed : ℕ) × (turns : ℕ) × IsWeakened (program_of code) seed turns left)
 made-so (Command.Run options) front code limits before left own = inl tt
 made-so (Command.Bench seed size options) front code limits before left own = inl tt
@@ -166,7 +167,8 @@ module _ (call : Call) (report : Reported) (run : RunView) (before after : Ends)
       both-ways (end_in run.left).output w.journal.weak.state.output judged never
       (weak-valid h.compiled w.weak.labels.items w.weak.tries.items w.weak.journal.entries judged w.journal there)
 
-  in-each : IsByEngine h.command ⊎ ((seed : ℕ) × (turns : ℕ) × IsWeakened (program_of h.compiled) seed turns run.left) → IsRoundTrip (end_in run.left).output judged
+  in-each : IsByEngine h.command ⊎ ((seed : ℕ) × (turns : ℕ) × IsWeakened (program_of h.compiled) seed turns run.left)
+      → IsRoundTrip (end_in run.left).output judged
   in-each (inl made) = by-engine made
   in-each (inr w) = weakly w.0 w.1 w.2
 

@@ -60,13 +60,15 @@ fault-or_none : (status : Status) → (status ≡ Status.WriteFault) ⊎ (status
 fault-or_none Status.WriteFault = inl refl
 fault-or_none _ = inr (λ e. cc)
 
-pub written-prefix : (status : Status) (text : List ℕ) (before after : Ends) → IsWritten status text before after → AppendsFront before.written after.written text
+pub written-prefix : (status : Status) (text : List ℕ) (before after : Ends) → IsWritten status text before after
+    → AppendsFront before.written after.written text
 written-prefix status text before after written = elim (fault-or_none status) [
   | inl fault ↦ (written.front fault).0
   | inr none ↦ record { front = text; rest = []; split = sym (append-nil text); appended = (written.whole none).0 }
 ]
 
-pub written-whole : (status : Status) (text : List ℕ) (before after : Ends) → IsWritten status text before after → HasNotRisen before.write_faults after.write_faults →
+pub written-whole : (status : Status) (text : List ℕ) (before after : Ends) → IsWritten status text before after
+    → HasNotRisen before.write_faults after.write_faults →
     Appends before.written after.written text
 written-whole status text before after written stayed =
     (written.whole (λ fault. HasNotRisen-excludes before.write_faults after.write_faults stayed (written.front fault).1)).0

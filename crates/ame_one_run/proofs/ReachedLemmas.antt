@@ -1,5 +1,6 @@
 -- Notes, certificates and faults report runs by the rules.
-use Rattle.std.proofs.Common.{◌≡◌, ◌↔◌, ◌⊎◌, inl, inr, ℕ, ◌+◌, ◌==◌, ℤ, pos, Bool, true, false, List, [], ◌∷◌, map, replicate, Option, Some, None, is_some, if◌then◌else◌, refl, sym, ap, ◌∙◌, arith, eqb-true}
+use Rattle.std.proofs.Common.{◌≡◌, ◌↔◌, ◌⊎◌, inl, inr, ℕ, ◌+◌, ◌==◌, ℤ, pos, Bool, true, false, List, [], ◌∷◌, map, replicate, Option, Some, None}
+use Rattle.std.proofs.Common.{is_some, if◌then◌else◌, refl, sym, ap, ◌∙◌, arith, eqb-true}
 use Rattle.std.proofs.lemmas.Bool.{false≢true}
 use Rattle.std.proofs.lemmas.List.Elements.{All-map, All-weaker, All-contains}
 use Rattle.std.specs.Prelude.{IsSome, All, Contains}
@@ -110,11 +111,13 @@ becomes_high (Tree.Lambda head body) e = (Val.Fun head body, Becomes.function he
 becomes_high (Tree.Two binary.Pair (Tree.Held v) (Tree.Held w)) e = (Val.Pair v w, Becomes.pair v w, e)
 becomes_high _ e = absurd (omega arith)
 
-comes_high : (side : Side) (f : Focus) → coming_height side f ≡ max_height + 1 → (under : Side) × (redex : Tree) × (f ≡ Focus.AtRedex under redex) × IsHigh redex
+comes_high : (side : Side) (f : Focus) → coming_height side f ≡ max_height + 1
+    → (under : Side) × (redex : Tree) × (f ≡ Focus.AtRedex under redex) × IsHigh redex
 comes_high side (Focus.AtValue v) e = absurd (omega arith)
 comes_high side (Focus.AtRedex under redex) e = by (same_side side under) e
   where
-    by : (b : Bool) → (if b then value_height redex else 0) ≡ max_height + 1 → (at : Side) × (r : Tree) × (Focus.AtRedex under redex ≡ Focus.AtRedex at r) × IsHigh r
+    by : (b : Bool) → (if b then value_height redex else 0) ≡ max_height + 1
+        → (at : Side) × (r : Tree) × (Focus.AtRedex under redex ≡ Focus.AtRedex at r) × IsHigh r
     by true e' = (under, redex, refl, becomes_high redex e')
     by false e' = absurd (omega arith)
 
@@ -123,7 +126,8 @@ attempted : (side : Side) (s t : State) (i : ℕ) (kinds : List StepKind) → ru
 attempted Side.Protected s t i kinds made = inl ((runs s (fragment_labels i kinds) t).0 made)
 attempted Side.Unprotected s t i kinds made = inr ((runs s (free_labels i kinds) t).0 made)
 
-tall-grows : (s t : State) (side : Side) (i : ℕ) (kinds : List StepKind) → run s (attempt_labels side i kinds) ≡ Some t → is_tall side i t ≡ true → GrowsTooHigh s i
+tall-grows : (s t : State) (side : Side) (i : ℕ) (kinds : List StepKind) → run s (attempt_labels side i kinds) ≡ Some t
+    → is_tall side i t ≡ true → GrowsTooHigh s i
 tall-grows s t side i kinds made tall =
     let m = some_such (λ term. coming_height side (focus term) == max_height + 1) (at t.members i) tall in
     let h = comes_high side (focus m.0) (eqb-true (coming_height side (focus m.0)) (max_height + 1) m.2) in

@@ -33,7 +33,7 @@ pub record AreUndisturbed (run again : RunView) : Type 0 where
   pub fine : is_fault (end_in run.left).stop ≡ false
   pub well : is_fault (end_in again.left).stop ≡ false
 
--- The same seats were picked, in the same order, with the same limits.
+-- Both runs picked the same seats, in the same order, with the same limits.
 pub record ArePickedAlike (run again : RunView) : Type 0 where
   pub limits : (end_in again.left).limits ≡ (end_in run.left).limits
   pub seats : seats_picked again.left ≡ seats_picked run.left

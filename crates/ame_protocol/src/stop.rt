@@ -9,7 +9,7 @@ pub enum Stop {
     Blocked,
     /// Members are left, and the turns are used up.
     Spent,
-    /// This member came to a value that is too high.
+    /// This member came to a value nested too deeply.
     Tall(u64),
     /// Memory was lacking.
     NoMemory,

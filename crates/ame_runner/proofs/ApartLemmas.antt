@@ -1,5 +1,6 @@
 -- Notes of one member stand apart in the journal of a weak run.
-use Rattle.std.proofs.Common.{◌≡◌, ℕ, zero, suc, ◌+◌, ◌-◌, ◌<◌, ◌≤◌, ◌++◌, ◌==◌, ◌⊎◌, inl, inr, Bool, true, false, List, [], ◌∷◌, length, take, drop, Some, None, is_some, option_map, option_and_then, if◌then◌else◌, refl, sym, ap, ◌∙◌, subst, arith}
+use Rattle.std.proofs.Common.{◌≡◌, ℕ, zero, suc, ◌+◌, ◌-◌, ◌<◌, ◌≤◌, ◌++◌, ◌==◌, ◌⊎◌, inl, inr, Bool, true, false, List, [], ◌∷◌, length, take, drop}
+use Rattle.std.proofs.Common.{Some, None, is_some, option_map, option_and_then, if◌then◌else◌, refl, sym, ap, ◌∙◌, subst, arith}
 use Rattle.std.specs.Prelude.{◌||◌, ◌&&◌, slice_get}
 use Rattle.std.specs.List.{AllByRecursion, list_any}
 use Rattle.std.proofs.lemmas.Bool.{eqb-true, eqb-false}
@@ -50,7 +51,8 @@ record HasNewsBefore (es : List Entry) (place : ℕ) : Type 0 where
   there : slice_get es at ≡ Some entry
   is : news entry ≡ true
 
-news-before : (i : ℕ) (es : List Entry) (place : ℕ) (next : Entry) → IsBehind i es → slice_get es place ≡ Some next → next.kind ≡ EntryKind.Stuck → next.number ≡ i
+news-before : (i : ℕ) (es : List Entry) (place : ℕ) (next : Entry) → IsBehind i es → slice_get es place ≡ Some next
+    → next.kind ≡ EntryKind.Stuck → next.number ≡ i
     → HasNewsBefore es place
 news-before i [] place next behind there kind number = absurd (cc)
 news-before i (e ∷ es) zero next behind there kind number =
@@ -313,7 +315,8 @@ none-behind n (t ∷ ts) e = by (t.after == n) e
     by true e = absurd (cc)
     by false e = refl
 
-apart-from : (n m : ℕ) (ts : List Try) (p : Place) (labels : List Label) → AreTriesInOrder n m ts → AreSpacedFrom n labels ts → AreApart (straight_with n ts p labels)
+apart-from : (n m : ℕ) (ts : List Try) (p : Place) (labels : List Label) → AreTriesInOrder n m ts
+    → AreSpacedFrom n labels ts → AreApart (straight_with n ts p labels)
 apart-from n m ts p [] order spaced = apart-notes n m ts p [] order spaced (λ us none later more. subst AreApart (sym none) tt)
 apart-from n m ts p (label ∷ labels) order spaced =
     apart-notes n m ts p (label ∷ labels) order spaced (λ us none later more.
@@ -326,7 +329,8 @@ apart-from n m ts p (label ∷ labels) order spaced =
 -- Labels of a run
 
 -- who is active stays so, unless it leaves or ends
-active-stays : (w x : Weak) (label : Label) → weak_after w label ≡ Some x → is_some w.state.active ≡ true → brings_news label ≡ false → is_some x.state.active ≡ true
+active-stays : (w x : Weak) (label : Label) → weak_after w label ≡ Some x → is_some w.state.active ≡ true
+    → brings_news label ≡ false → is_some x.state.active ≡ true
 unfolding weak_after
 active-stays w x (Label.Activate i) e active quiet =
     let m = map-gave (moved w) (after w.state (Label.Activate i)) x (if-gave (holds_nothing w) (option_map (moved w) (after w.state (Label.Activate i))) x e).1 in
@@ -435,7 +439,8 @@ module _ (program : Tree) (labels : List Label) (w : Weak) (leads : IsWeakRun pr
   spaced-from k [] order tried spaced = tt
   spaced-from k (t ∷ ts) order tried spaced = (each t.after ts order.2 (omega arith) tried.1 spaced.0, spaced-from t.after ts order.2 tried.1 spaced.1)
     where
-      each : (j : ℕ) (us : List Try) → AreTriesInOrder j (length labels) us → t.after ≤ j → AreTried program labels us → AllByRecursion (AreSetApart labels t) us
+      each : (j : ℕ) (us : List Try) → AreTriesInOrder j (length labels) us → t.after ≤ j → AreTried program labels us
+          → AllByRecursion (AreSetApart labels t) us
           → AllByRecursion (AreNewsBetween 0 labels t) us
       each j [] order low tried apart = tt
       each j (u ∷ us) order low tried apart =

@@ -7,7 +7,8 @@ module _ (w : Weak) (aside : ℕ → Bool) (n : ℕ) where
   next-below : candidates_below (n + 1) w aside ≡ candidates_below n w aside ++ (if is_candidate w aside n then n ∷ [] else [])
   next-below = let count : n + 1 ≡ suc n = omega arith in ap (λ m. candidates_below m w aside) count
 
-  pub with-it : (numbers more : List ℕ) → numbers ≡ candidates_below n w aside → is_candidate w aside n ≡ true → more ≡ numbers ++ n ∷ [] → more ≡ candidates_below (n + 1) w aside
+  pub with-it : (numbers more : List ℕ) → numbers ≡ candidates_below n w aside → is_candidate w aside n ≡ true
+      → more ≡ numbers ++ n ∷ [] → more ≡ candidates_below (n + 1) w aside
   with-it numbers more is goes added =
       added ∙ ap (λ ns. ns ++ n ∷ []) is ∙ ap (λ b. candidates_below n w aside ++ (if b then n ∷ [] else [])) (sym goes) ∙ sym next-below
 

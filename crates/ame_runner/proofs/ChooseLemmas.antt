@@ -1,5 +1,6 @@
 -- Choices, and the stops that are found in their place.
-use Rattle.std.proofs.Common.{◌≡◌, ◌≢◌, ℕ, ◌+◌, ◌<◌, ◌≤◌, ◌==◌, ◌++◌, Bool, true, false, List, [], ◌∷◌, length, Option, Some, None, is_some, option_map, not, if◌then◌else◌, refl, sym, ap, ◌∙◌, subst, arith, inl, inr, ℤ}
+use Rattle.std.proofs.Common.{◌≡◌, ◌≢◌, ℕ, ◌+◌, ◌<◌, ◌≤◌, ◌==◌, ◌++◌, Bool, true, false, List, [], ◌∷◌, length, Option, Some, None, is_some}
+use Rattle.std.proofs.Common.{option_map, not, if◌then◌else◌, refl, sym, ap, ◌∙◌, subst, arith, inl, inr, ℤ}
 use Rattle.std.specs.Prelude.{⊤, ◌||◌, ◌⊎◌, nat_lt, Vec, Result, Ok, Err, IsErr, IfOk}
 use Rattle.std.specs.declared.alloc.Global.{Global}
 use Rattle.std.proofs.lemmas.Bool.{eqb-true, eqb-false}
@@ -36,7 +37,8 @@ use Rattle.ame_runner.specs.Play.{PlayView, HasMadeLabel}
 use Rattle.ame_runner.specs.Choices.{candidates}
 use Rattle.ame_runner.specs.Freeing.{FailsFor, HasFreed}
 use Rattle.ame_runner.specs.Run.{CourseView, IsRunning, CanBeEnded}
-use Rattle.ame_runner.specs.Stop.{certified_numbers, HearsOn, StopsIfTold, HasGrown, RunsUntil, PlaysOn, StandsAtCall, HasStoppedWeakly, MayGoOn, IsFoundInOrder, FoundAtRest, HasCertified}
+use Rattle.ame_runner.specs.Stop.{certified_numbers, HearsOn, StopsIfTold, HasGrown, RunsUntil, PlaysOn, StandsAtCall, HasStoppedWeakly, MayGoOn}
+use Rattle.ame_runner.specs.Stop.{IsFoundInOrder, FoundAtRest, HasCertified}
 use Rattle.ame_journal.specs.declared.entry.Entry.{Entry}
 use Rattle.ame_weak.specs.Bounds.{is_growing_tall}
 use Rattle.ame_runner.specs.Tall.{tall_note, IsTallIn}
@@ -52,7 +54,8 @@ use Rattle.ame_runner.proofs.HoldLemmas.{resting_grows_tall}
 -- Choices
 
 -- a label, or none, by which devices hear nothing
-pub goes-quiet : (r q : CourseView) (told : List Told) → (IsRunning r → IsRunning q) → HearsOn None r q told told → IsRunning r → IsRunning q × HearsOn None r q told told × ⊤
+pub goes-quiet : (r q : CourseView) (told : List Told) → (IsRunning r → IsRunning q) → HearsOn None r q told told
+    → IsRunning r → IsRunning q × HearsOn None r q told told × ⊤
 goes-quiet r q told runs hears running = (runs running, hears, tt)
 
 -- the device that a member calls fails, and the active fragment runs to its end
@@ -90,12 +93,14 @@ pub goes-stop : (r : CourseView) (told : List Told) (stop : WeakStop) → FoundA
 goes-stop r told stop found running = let f = found running in (runs-until stop r f.1 running, hears-stop stop r told f.1, f.0)
 
 -- a member grew too tall, and devices hear nothing
-pub goes-tall : (r q : CourseView) (told : List Told) (entry : Entry) → (IsRunning r → HasGrown entry q × HasStoppedWeakly (WeakStop.Tall entry) q) → HearsOn None r q told told
+pub goes-tall : (r q : CourseView) (told : List Told) (entry : Entry)
+    → (IsRunning r → HasGrown entry q × HasStoppedWeakly (WeakStop.Tall entry) q) → HearsOn None r q told told
     → IsRunning r → HasGrown entry q × HearsOn (Some (WeakStop.Tall entry)) r q told told × HasStoppedWeakly (WeakStop.Tall entry) q
 goes-tall r q told entry grows hears running = let x = grows running in (x.0, hears, x.1)
 
 -- a member is about to become a value that is too high under `unprotected`, nothing is active, and no label is left to be made
-pub stops-tall : (r : CourseView) (i : ℕ) (entry : Entry) → IsSourceTerm r.play.program → r.left ≡ [] → r.play.weak.state.active ≡ None → is_growing_tall r.play.weak (Some i) ≡ true
+pub stops-tall : (r : CourseView) (i : ℕ) (entry : Entry) → IsSourceTerm r.play.program → r.left ≡ []
+    → r.play.weak.state.active ≡ None → is_growing_tall r.play.weak (Some i) ≡ true
     → entry ≡ tall_note i 0 [] → IsRunning r → HasGrown entry r × HasStoppedWeakly (WeakStop.Tall entry) r
 stops-tall r i entry source none idle grows is running = (
   record { turns = r.turns; before = running; more = inl refl; within = running.within },
@@ -119,12 +124,14 @@ attempts-tall r q entry n is more within none idle tall running =
     )
 
 -- what a choice came to
-pub goes-as : (r q : CourseView) (before after : List Told) (stop told : Option WeakStop) → stop ≡ told → (IsRunning r → RunsUntil stop q × HearsOn stop r q before after × StopsIfTold stop q)
+pub goes-as : (r q : CourseView) (before after : List Told) (stop told : Option WeakStop) → stop ≡ told
+    → (IsRunning r → RunsUntil stop q × HearsOn stop r q before after × StopsIfTold stop q)
     → IsRunning r → RunsUntil told q × HearsOn told r q before after × StopsIfTold told q
 goes-as r q before after stop told is goes = subst (λ (o : Option WeakStop). IsRunning r → RunsUntil o q × HearsOn o r q before after × StopsIfTold o q) is goes
 
 -- out of memory
-pub plays-lost : {E : Type 0} (r q : CourseView) (before after : List Told) (a : Result WeakStop E) → IsErr a → (IsRunning r → CanBeEnded q) → PlaysOn r q before after a
+pub plays-lost : {E : Type 0} (r q : CourseView) (before after : List Told) (a : Result WeakStop E) → IsErr a
+    → (IsRunning r → CanBeEnded q) → PlaysOn r q before after a
 plays-lost r q before after (Err e) lost ends = ends
 plays-lost r q before after (Ok stop) lost ends = absurd (let clash : false ≡ true = lost in cc)
 
@@ -142,7 +149,8 @@ module _ (a b q : CourseView) (before mid after : List Told) (runs : IsRunning a
 
 module _ (devices : ℕ) (places : List ℕ) (program : Tree) (refs : List Typ) (accepts : Accepts devices places program refs) (source : IsSourceTerm program) (numbered : IsNumbered 0 program) where
   -- a label under `unprotected`
-  pub goes-label : (r q : CourseView) (i : ℕ) (label : Label) (before after : List Told) → r.play.program ≡ program → HasFreed r.play.weak i r.above before after (FreeStep.Label label)
+  pub goes-label : (r q : CourseView) (i : ℕ) (label : Label) (before after : List Told) → r.play.program ≡ program
+      → HasFreed r.play.weak i r.above before after (FreeStep.Label label)
       → HasMadeLabel label r.play q.play → (IsRunning r → IsRunning q) → IsRunning r → IsRunning q × HearsOn None r q before after × ⊤
   goes-label r q i label before after is freed made runs running = (
     runs running,
@@ -184,7 +192,8 @@ module _ (r : CourseView) (none : r.left ≡ []) (idle : r.play.weak.state.activ
 
 -- Certificates
 
-pub fails-there : (w : Weak) (t : Try) → HoldsIn w t → t.failing ≡ true → fails_after w.state t.certificate.number t.certificate.steps t.certificate.fresh ≡ true
+pub fails-there : (w : Weak) (t : Try) → HoldsIn w t → t.failing ≡ true
+    → fails_after w.state t.certificate.number t.certificate.steps t.certificate.fresh ≡ true
 fails-there w t holds failing =
     subst
     (λ (b : Bool). (if b then fails_after w.state t.certificate.number t.certificate.steps t.certificate.fresh
@@ -291,7 +300,8 @@ module _ (may : List ℕ) (n : ℕ) (b : Bool) (test : b ≡ (n == 0)) (count : 
   somebody-listed is none = eqb-false n 0 (sym test ∙ is) (count ∙ ap length none)
 
 -- a member that is looked for and isn't there
-pub absent-so : {X : Type 0} (f : X → Tree) (o : Option X) (w v : Weak) (n : ℕ) (b : Bool) → option_map f o ≡ at (pool w.state) n → w ≡ v → is_some o ≡ not b → b ≡ true
+pub absent-so : {X : Type 0} (f : X → Tree) (o : Option X) (w v : Weak) (n : ℕ) (b : Bool)
+    → option_map f o ≡ at (pool w.state) n → w ≡ v → is_some o ≡ not b → b ≡ true
     → is_some (at (pool v.state) n) ≡ false
 absent-so f None w v n b found same is there = ap (λ (z : Weak). is_some (at (pool z.state) n)) (sym same) ∙ ap is_some (sym found)
 absent-so f (Some x) w v n b found same is there = absurd (let clash : true ≡ false = is ∙ ap not there in cc)

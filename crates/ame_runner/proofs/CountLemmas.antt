@@ -1,5 +1,6 @@
 -- Turns and locations, when a run goes on.
-use Rattle.std.proofs.Common.{◌≡◌, ℕ, suc, ◌+◌, ◌≤◌, ◌<◌, ◌==◌, ◌++◌, ◌⊎◌, inl, inr, max, Bool, true, false, List, [], ◌∷◌, length, map, Option, Some, None, refl, sym, ap, ◌∙◌, subst, arith, length-append}
+use Rattle.std.proofs.Common.{◌≡◌, ℕ, suc, ◌+◌, ◌≤◌, ◌<◌, ◌==◌, ◌++◌, ◌⊎◌, inl, inr, max, Bool, true, false, List, [], ◌∷◌, length, map, Option, Some}
+use Rattle.std.proofs.Common.{None, refl, sym, ap, ◌∙◌, subst, arith, length-append}
 use Rattle.std.specs.Prelude.{◌&&◌, ◌||◌, option_to_list}
 use Rattle.std.specs.List.{AllByRecursion}
 use Rattle.std.proofs.lemmas.List.Sums.{sum_by_push}
@@ -32,7 +33,8 @@ pub record AreCounted (a : ℕ) (kinds : List StepKind) (b : ℕ) : Type 0 where
   pub few : b ≤ a + length kinds
   pub below : location_above (map Label.Step kinds) ≤ b
 
-counted-where : (a : ℕ) (kind : StepKind) (kinds : List StepKind) (b : ℕ) → ((c : ℕ) → AreNext c (made_by kinds) b → AreCounted c kinds b) → (o : Option ℕ) → fresh_location kind ≡ o
+counted-where : (a : ℕ) (kind : StepKind) (kinds : List StepKind) (b : ℕ)
+    → ((c : ℕ) → AreNext c (made_by kinds) b → AreCounted c kinds b) → (o : Option ℕ) → fresh_location kind ≡ o
     → AreNext a (option_to_list o ++ made_by kinds) b → AreCounted a (kind ∷ kinds) b
 counted-where a kind kinds b more None none is =
     let x = more a is in
@@ -99,7 +101,8 @@ or-there false b e = e
 -- a fragment was tried, and came to nothing
 pub runs-noted : (r q : CourseView) (u : Try) → IsRunning r → r.play.weak.state.active ≡ None → u.after ≡ length r.play.labels → HoldsWithin r.play.weak u
     → (u.failing ≡ true → r.aside u.certificate.number ≡ false) → ((i : ℕ) → q.aside i ≡ ((u.failing && (u.certificate.number == i)) || r.aside i))
-    → q.play ≡ r.play → q.tries ≡ r.tries ++ u ∷ [] → q.left ≡ r.left → q.above ≡ r.above → q.turns ≡ r.turns + (u.certificate.steps + 1) → q.turns ≤ q.limit → r.turns < r.limit → r.left ≡ []
+    → q.play ≡ r.play → q.tries ≡ r.tries ++ u ∷ [] → q.left ≡ r.left → q.above ≡ r.above
+    → q.turns ≡ r.turns + (u.certificate.steps + 1) → q.turns ≤ q.limit → r.turns < r.limit → r.left ≡ []
     → (u.failing ≡ true) ⊎ (q.turns ≡ q.limit) → IsRunning q
 runs-noted r q u x idle last holds free put play tries left above turns within more none how = record {
   played = subst IsPlayedWeakly (sym play) x.played;
@@ -159,8 +162,10 @@ steps-length [] = refl
 steps-length (kind ∷ kinds) = ap suc (steps-length kinds)
 
 -- a fragment was tried that leaves or ends, and is to be made
-pub runs-begun : (r q : CourseView) (i : ℕ) (kinds : List StepKind) (last : Label) → IsRunning r → AreNext r.above (made_by kinds) q.above → behind_location (label_location last) ≡ 0 → IsOwn last
-    → q.play ≡ r.play → q.tries ≡ r.tries → ((i : ℕ) → q.aside i ≡ r.aside i) → q.left ≡ r.left ++ (fragment_labels i kinds ++ last ∷ []) → q.turns ≡ r.turns + (length kinds + 2)
+pub runs-begun : (r q : CourseView) (i : ℕ) (kinds : List StepKind) (last : Label) → IsRunning r
+    → AreNext r.above (made_by kinds) q.above → behind_location (label_location last) ≡ 0 → IsOwn last
+    → q.play ≡ r.play → q.tries ≡ r.tries → ((i : ℕ) → q.aside i ≡ r.aside i)
+    → q.left ≡ r.left ++ (fragment_labels i kinds ++ last ∷ []) → q.turns ≡ r.turns + (length kinds + 2)
     → q.turns ≤ q.limit → r.turns < r.limit → IsRunning q
 runs-begun r q i kinds last x next none own play tries aside left turns within more =
     let n = counted-next r.above kinds q.above next in

@@ -107,7 +107,8 @@ module _ (w : Weak) (i device : ℕ) (before after : List Told) (f : FailsFor w 
   pub one-failed : OneFailed device before after
   one-failed = failed-one before after device f.argument f.called
 
-  pub heard-fault : (program : Tree) (opened : List Told) (labels : List Label) → HaveHeard program (straight labels) opened before → HaveHeard program (straight labels) opened after
+  pub heard-fault : (program : Tree) (opened : List Told) (labels : List Label)
+      → HaveHeard program (straight labels) opened before → HaveHeard program (straight labels) opened after
   heard-fault program opened labels h =
       heard-failed program [] opened (straight labels) before after (fail-count before after device f.argument f.called)
       (failed-heard before after device f.argument f.called) (failed-kind before after device f.argument f.called) h

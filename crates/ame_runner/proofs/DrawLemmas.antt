@@ -1,5 +1,6 @@
 -- A course is drawn, choice by choice.
-use Rattle.std.proofs.Common.{◌≡◌, ◌≢◌, ℕ, suc, ◌+◌, ◌<◌, ◌≤◌, ◌++◌, ◌⊎◌, inl, inr, max, true, false, Bool, List, [], ◌∷◌, length, take, Option, Some, None, refl, sym, ap, ◌∙◌, subst, arith, append-nil, append_assoc}
+use Rattle.std.proofs.Common.{◌≡◌, ◌≢◌, ℕ, suc, ◌+◌, ◌<◌, ◌≤◌, ◌++◌, ◌⊎◌, inl, inr, max, true, false, Bool, List, [], ◌∷◌, length, take, Option, Some}
+use Rattle.std.proofs.Common.{None, refl, sym, ap, ◌∙◌, subst, arith, append-nil, append_assoc}
 use Rattle.std.specs.Prelude.{Result, Ok, Err, IfOk}
 use Rattle.std.proofs.lemmas.List.{take_all}
 use Rattle.ame_term.specs.Tree.{Tree}
@@ -16,8 +17,10 @@ use Rattle.ame_runner.specs.Run.{CourseView, IsRunning, CanBeEnded, HasMadeUncou
 use Rattle.ame_runner.specs.Stop.{MayGoOn, IsFoundInOrder, HasStoppedWeakly, FoundAtRest}
 use Rattle.ame_runner.specs.Tall.{tall_note}
 use Rattle.ame_runner.specs.Trial.{last_turn}
-use Rattle.ame_runner.specs.Drawn.{drawn_by, MakesNextLabel, StepsFree, MayAttempt, PlansFragment, ComesToNothing, NotesTry, GoesOnWhenDrawn, Course, RestsWith, StopsWhenDrawn, EndsBy, IsDrawn}
-use Rattle.ame_runner.specs.Drawing.{HasCountedTurn, RunsOn, HasRunOut, HasActivated, KeepsCourse, HasTried, HasStoppedAt, TakesOrStops, HasDrawn, HasNotDrawn, HasEndedBy, DrawsOrEnds, DrawsAll, IsReportOf}
+use Rattle.ame_runner.specs.Drawn.{drawn_by, MakesNextLabel, StepsFree, MayAttempt, PlansFragment, ComesToNothing, NotesTry, GoesOnWhenDrawn, Course}
+use Rattle.ame_runner.specs.Drawn.{RestsWith, StopsWhenDrawn, EndsBy, IsDrawn}
+use Rattle.ame_runner.specs.Drawing.{HasCountedTurn, RunsOn, HasRunOut, HasActivated, KeepsCourse, HasTried, HasStoppedAt, TakesOrStops, HasDrawn}
+use Rattle.ame_runner.specs.Drawing.{HasNotDrawn, HasEndedBy, DrawsOrEnds, DrawsAll, IsReportOf}
 use Rattle.ame_runner.specs.declared.stop.WeakStop.{WeakStop}
 use Rattle.ame_runner.specs.declared.trial.AttemptEnd.{AttemptEnd}
 
@@ -124,7 +127,8 @@ stops-fault i device c d before after f h = record {
 
 -- Choices
 
-pub draws-member : (number later i : ℕ) (c d : CourseView) (stop : Option WeakStop) → later ≡ number_after number → c.turns < c.limit → MayGoOn c → i ≡ drawn_by (number_after number) c
+pub draws-member : (number later i : ℕ) (c d : CourseView) (stop : Option WeakStop) → later ≡ number_after number
+    → c.turns < c.limit → MayGoOn c → i ≡ drawn_by (number_after number) c
     → TakesOrStops i c d stop → DrawsOrEnds number later c d stop
 draws-member number later i c d None next turns may is takes = inl (record { number_is = next; turns = turns; may = may; takes = subst (λ (k : ℕ). GoesOnWhenDrawn k c d) is takes })
 draws-member number later i c d (Some stop) next turns may is s = λ running. record {
@@ -161,17 +165,20 @@ module _ (program : Tree) (limit seed : ℕ) where
   course-out number c _ (RunsOn.more m d runs g) spent course =
       Course.runs_out number m d (course-out number c m runs spent course) (out-spent c m runs spent) g
 
-  pub course-on : (number later : ℕ) (c d : CourseView) → Course program limit seed number c → DrawsOrEnds number later c d None → Course program limit seed later d
+  pub course-on : (number later : ℕ) (c d : CourseView) → Course program limit seed number c
+      → DrawsOrEnds number later c d None → Course program limit seed later d
   course-on number later c d course (inl h) =
       subst (λ (n : ℕ). Course program limit seed n d) (sym h.number_is) (Course.draws number c d course h.turns h.may h.takes)
   course-on number later c d course (inr h) =
       subst (λ (n : ℕ). Course program limit seed n d) (sym h.same) (course-out number c d h.out.runs h.spent course)
 
 -- a choice with what it came to
-pub draws-as : (number later : ℕ) (c d : CourseView) (stop told : Option WeakStop) → stop ≡ told → DrawsOrEnds number later c d stop → DrawsOrEnds number later c d told
+pub draws-as : (number later : ℕ) (c d : CourseView) (stop told : Option WeakStop) → stop ≡ told
+    → DrawsOrEnds number later c d stop → DrawsOrEnds number later c d told
 draws-as number later c d stop told is h = subst (DrawsOrEnds number later c d) is h
 
-pub ends-drawn : (number : ℕ) (c d : CourseView) (stop : WeakStop) (program : Tree) (limit seed : ℕ) → Course program limit seed number c → HasEndedBy number c d stop
+pub ends-drawn : (number : ℕ) (c d : CourseView) (stop : WeakStop) (program : Tree) (limit seed : ℕ)
+    → Course program limit seed number c → HasEndedBy number c d stop
     → IsDrawn program limit seed d.play.labels d.tries d.turns stop
 ends-drawn number c d stop program limit seed course h = record {
   number = number;
@@ -184,7 +191,8 @@ ends-drawn number c d stop program limit seed course h = record {
 
 -- Reports
 
-pub drawn-report : (program : Tree) (limit seed : ℕ) (r : CourseView) (why : WeakStop) (labels : List Label) (tries : List Try) (turns : ℕ) (stop : WeakStop) → CanBeEnded r
+pub drawn-report : (program : Tree) (limit seed : ℕ) (r : CourseView) (why : WeakStop) (labels : List Label) (tries : List Try) (turns : ℕ) (stop : WeakStop)
+    → CanBeEnded r
     → HasStoppedWeakly why r → (stop ≡ WeakStop.NoMemory) ⊎ IsReportOf r why labels tries turns stop → stop ≢ WeakStop.NoMemory
     → IsDrawn program limit seed r.play.labels r.tries r.turns why → IsDrawn program limit seed labels tries turns stop
 drawn-report program limit seed r why labels tries turns stop x stopped (inl lacking) able drawn = absurd (able lacking)

@@ -107,7 +107,8 @@ record IsPaid (stop : WeakStop) (r : CourseView) : Type 0 where
   counted : IsCounted stop (length r.play.labels + turns_of_tries r.tries) r.turns
 
 paid-running : (stop : WeakStop) (r : CourseView)
-    → (r.turns ≡ length r.play.labels + turns_of_tries r.tries → IsCounted stop (length r.play.labels + turns_of_tries r.tries) r.turns) → IsRunning r → r.left ≡ []
+    → (r.turns ≡ length r.play.labels + turns_of_tries r.tries → IsCounted stop (length r.play.labels + turns_of_tries r.tries) r.turns)
+    → IsRunning r → r.left ≡ []
     → IsPaid stop r
 paid-running stop r same x none = record {
   turns = r.turns;
@@ -222,7 +223,8 @@ not-begun program limit labels tries stop none untried lacking =
     (subst (λ (why : WeakStop). IsWeakRunOf program limit [] [] why) (sym lacking) (none-run program limit)))
 
 -- nothing more is promised when out of memory
-pub tells-nothing : (program : Tree) (limit : ℕ) (labels : List Label) (tries : List Try) (turns : ℕ) (before after : List Told) (stop : WeakStop) → stop ≡ WeakStop.NoMemory
+pub tells-nothing : (program : Tree) (limit : ℕ) (labels : List Label) (tries : List Try) (turns : ℕ) (before after : List Told) (stop : WeakStop)
+    → stop ≡ WeakStop.NoMemory
     → TellsStop program limit labels tries turns before after stop
 tells-nothing program limit labels tries turns before after stop lacking =
     subst (λ (why : WeakStop). TellsStop program limit labels tries turns before after why) (sym lacking) tt
@@ -248,7 +250,8 @@ module _ (r : CourseView) (labels : List Label) (tries : List Try) (stop : WeakS
       ended-as (without_cut r.tries) same (ended-run (without r) stop (ends-without r x) (all-failed-so stop r.play.settled (without_cut r.tries) (failed-left r x)))
 
   -- of a run that has stopped
-  pub told-whole : (turns : ℕ) (why : WeakStop) → RunsUntil (Some why) r → HasStoppedWeakly why r → tries ≡ r.tries → turns ≡ r.turns → stop ≡ why → (before now : List Told)
+  pub told-whole : (turns : ℕ) (why : WeakStop) → RunsUntil (Some why) r → HasStoppedWeakly why r → tries ≡ r.tries
+      → turns ≡ r.turns → stop ≡ why → (before now : List Told)
       → HeardSoFar r before now → FailsBy (Some why) before now → TellsStop r.play.program r.limit labels tries turns before now stop
   told-whole turns why x stopped same count is before now heard fails =
       subst (λ (w : WeakStop). TellsStop r.play.program r.limit labels tries turns before now w) (sym is)

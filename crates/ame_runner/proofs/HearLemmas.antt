@@ -68,7 +68,8 @@ pub hears-still : (r q : CourseView) (told : List Told) → q.play ≡ r.play �
 hears-still r q told same = λ opened running heard. (subst (λ (p : PlayView). HaveHeard p.program (straight p.labels) opened told) (sym same) heard, λ k. refl)
 
 -- one after the other
-pub hears-then : (stop : Option WeakStop) (r m q : CourseView) (before now after : List Told) → HearsOn None r m before now → (IsRunning r → IsRunning m) → HearsOn stop m q now after
+pub hears-then : (stop : Option WeakStop) (r m q : CourseView) (before now after : List Told)
+    → HearsOn None r m before now → (IsRunning r → IsRunning m) → HearsOn stop m q now after
     → HearsOn stop r q before after
 hears-then stop r m q before now after first runs second = λ opened running heard.
     let a = first opened running heard in

@@ -1,5 +1,6 @@
 -- A fragment that was tried on a copy could run here.
-use Rattle.std.proofs.Common.{◌≡◌, ℕ, suc, ◌+◌, ◌==◌, ◌++◌, inr, Bool, true, false, List, [], ◌∷◌, length, map, Option, Some, None, is_some, if◌then◌else◌, refl, sym, ap, ◌∙◌, subst, arith, append-nil, append_assoc}
+use Rattle.std.proofs.Common.{◌≡◌, ℕ, suc, ◌+◌, ◌==◌, ◌++◌, inr, Bool, true, false, List, [], ◌∷◌, length, map, Option, Some, None, is_some}
+use Rattle.std.proofs.Common.{if◌then◌else◌, refl, sym, ap, ◌∙◌, subst, arith, append-nil, append_assoc}
 use Rattle.std.proofs.lemmas.Option.{option_and_then_some}
 use Rattle.ame_term.specs.Tree.{Typ, Tree}
 use Rattle.ame_term.specs.Signature.{Signature, listed}
@@ -44,7 +45,8 @@ use Rattle.ame_runner.specs.declared.trial.TriedOut.{TriedOut}
 
 module _ (signature : Signature) where
   -- the steps of a fragment, one after the other
-  way-on : (s : State) (i n : ℕ) (fresh : List ℕ) (v u : Weak) (kinds : List StepKind) → IsUnderWay signature s i n fresh v → weak_run v (map Label.Step kinds) ≡ Some u
+  way-on : (s : State) (i n : ℕ) (fresh : List ℕ) (v u : Weak) (kinds : List StepKind)
+      → IsUnderWay signature s i n fresh v → weak_run v (map Label.Step kinds) ≡ Some u
       → IsUnderWay signature s i (n + length kinds) (fresh ++ made_by kinds) u
   way-on s i n fresh v u [] way e =
       let same : v ≡ u = cc in
@@ -69,7 +71,8 @@ module _ (signature : Signature) where
         subst (λ (s : State). IsUnderWay signature s i 0 [] v) (sym (ap (λ (z : Weak). z.state) is))
         (subst (IsUnderWay signature r.state i 0 []) m.2 (way-begun signature f.cells r.state i m.0 f.typed f.calm.idle f.calm.orderly m.1))
 
-    way-of : (i first : ℕ) (v : Weak) (kinds : List StepKind) (above : ℕ) → IsTrial w i first v kinds above → IsUnderWay signature w.state i (length kinds) (made_by kinds) v
+    way-of : (i first : ℕ) (v : Weak) (kinds : List StepKind) (above : ℕ) → IsTrial w i first v kinds above
+        → IsUnderWay signature w.state i (length kinds) (made_by kinds) v
     way-of i first v kinds above t =
         option_and_then_some _ _ _ t.leads (λ x begins rest.
         let count : 0 + length kinds ≡ length kinds = omega arith in
@@ -116,7 +119,8 @@ stuck-where AttemptEnd.Tall v stands e = absurd (cc)
 stuck-where AttemptEnd.Cut v stands e = absurd (cc)
 
 module _ (devices : ℕ) (places : List ℕ) (program : Tree) (refs : List Typ) (accepts : Accepts devices places program refs) (source : IsSourceTerm program) (numbered : IsNumbered 0 program) where
-  pub tried_fragments_hold : (labels : List Label) (w : Weak) (i first turns : ℕ) (a : TriedOut) (t : Try) → weak_run (weak_start program) labels ≡ Some w → w.state.active ≡ None
+  pub tried_fragments_hold : (labels : List Label) (w : Weak) (i first turns : ℕ) (a : TriedOut) (t : Try)
+      → weak_run (weak_start program) labels ≡ Some w → w.state.active ≡ None
       → IsTriedOut w i first turns a → IsTryOf i a t → HoldsIn w t
   tried_fragments_hold labels w i first turns a t e idle tried is =
       let g = follow-labels (listed devices refs) (begun_at program) outset (weak_start program) w labels (begun-followed devices places program refs accepts source numbered) e in
@@ -132,7 +136,8 @@ module _ (devices : ℕ) (places : List ℕ) (program : Tree) (refs : List Typ) 
 
   -- a fragment that came to a value that would be too high comes to it here, as its note says
   pub tried_grow_tall : (labels : List Label) (w : Weak) (i first turns : ℕ) (a : TriedOut) (entry : Entry) → weak_run (weak_start program) labels ≡ Some w
-      → AreWithinBounds (weak_start program) labels → w.state.active ≡ None → IsTriedOut w i first turns a → a.outcome ≡ AttemptEnd.Tall → IsTallOf i a entry → IsTallIn w.state entry
+      → AreWithinBounds (weak_start program) labels → w.state.active ≡ None → IsTriedOut w i first turns a
+      → a.outcome ≡ AttemptEnd.Tall → IsTallOf i a entry → IsTallIn w.state entry
   tried_grow_tall labels w i first turns a entry e within idle tried outcome is =
       let g = follow-labels (listed devices refs) (begun_at program) outset (weak_start program) w labels (begun-followed devices places program refs accepts source numbered) e in
       let way = way-of (listed devices refs) g.behind (past_all outset labels) w g.follows idle i first tried.behind a.kinds.items a.above tried.is in
@@ -172,7 +177,8 @@ tall-stands i s high = by (at s.members i) high
     by (Some term) high = stands (focus term) high
 
 -- under `unprotected` its next step is that
-pub resting_grows_tall : (program : Tree) (labels : List Label) (w : Weak) (i : ℕ) (entry : Entry) → IsSourceTerm program → weak_run (weak_start program) labels ≡ Some w
+pub resting_grows_tall : (program : Tree) (labels : List Label) (w : Weak) (i : ℕ) (entry : Entry)
+    → IsSourceTerm program → weak_run (weak_start program) labels ≡ Some w
     → AreWithinBounds (weak_start program) labels → is_growing_tall w (Some i) ≡ true → entry ≡ tall_note i 0 [] → IsTallIn w.state entry
 resting_grows_tall program labels w i entry source e within grows is =
     let high = resting_tall w i (labels_low (weak_start program) w labels e within (start_low program source)) grows in

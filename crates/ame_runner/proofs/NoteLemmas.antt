@@ -1,5 +1,6 @@
 -- Tries are kept when a label or a try is added.
-use Rattle.std.proofs.Common.{◌≡◌, ℕ, ◌+◌, ◌≤◌, ◌++◌, ◌⊎◌, inl, inr, Bool, true, false, List, [], ◌∷◌, length, take, drop, refl, sym, ap, ◌∙◌, subst, arith, length-append}
+use Rattle.std.proofs.Common.{◌≡◌, ℕ, ◌+◌, ◌≤◌, ◌++◌, ◌⊎◌, inl, inr, Bool, true, false, List, [], ◌∷◌, length, take, drop, refl, sym, ap, ◌∙◌, subst}
+use Rattle.std.proofs.Common.{arith, length-append}
 use Rattle.std.specs.Prelude.{◌||◌}
 use Rattle.std.specs.List.{AllByRecursion, list_any}
 use Rattle.std.proofs.lemmas.List.{take_all, take-append-le, drop-append-le}
@@ -70,17 +71,20 @@ module _ (program : Tree) (labels : List Label) (aside : ℕ → Bool) (ts : Lis
   here : AllByRecursion (λ t. t.after ≤ length labels) ts
   here = within 0 (length labels) ts kept.order
 
-  aside-later : (label : Label) (later : ℕ → Bool) → (lets_try_again label ≡ true) ⊎ ((i : ℕ) → later i ≡ aside i) → (t : Try) → IsAsideSince labels aside t → t.after ≤ length labels
+  aside-later : (label : Label) (later : ℕ → Bool) → (lets_try_again label ≡ true) ⊎ ((i : ℕ) → later i ≡ aside i)
+      → (t : Try) → IsAsideSince labels aside t → t.after ≤ length labels
       → IsAsideSince (labels ++ label ∷ []) later t
   aside-later label later (inl lets) t since few failing = inr (changed-now labels label t.after few lets)
   aside-later label later (inr same) t since few failing = by (since failing)
     where
-      by : (aside t.certificate.number ≡ true) ⊎ HasChange (drop t.after labels) → (later t.certificate.number ≡ true) ⊎ HasChange (drop t.after (labels ++ label ∷ []))
+      by : (aside t.certificate.number ≡ true) ⊎ HasChange (drop t.after labels)
+          → (later t.certificate.number ≡ true) ⊎ HasChange (drop t.after (labels ++ label ∷ []))
       by (inl put) = inl (same t.certificate.number ∙ put)
       by (inr change) = inr (changed-still labels label t.after few change)
 
   -- a label is made, after which no member is put aside any more, or the same members still are
-  pub kept-label : (label : Label) (later : ℕ → Bool) → (lets_try_again label ≡ true) ⊎ ((i : ℕ) → later i ≡ aside i) → AreKept program (labels ++ label ∷ []) later ts
+  pub kept-label : (label : Label) (later : ℕ → Bool) → (lets_try_again label ≡ true) ⊎ ((i : ℕ) → later i ≡ aside i)
+      → AreKept program (labels ++ label ∷ []) later ts
   kept-label label later how = record {
     order = order-later 0 (length labels) (length (labels ++ label ∷ [])) ts (let long : length (labels ++ label ∷ []) ≡ length labels + 1 = length-append labels (label ∷ []) in omega arith) kept.order;
     hold =
@@ -95,7 +99,8 @@ module _ (program : Tree) (labels : List Label) (aside : ℕ → Bool) (ts : Lis
 
   -- a try is added of a member that isn't put aside; if it fails, the member is put aside
   pub kept-try : (u : Try) (later : ℕ → Bool) → u.after ≡ length labels → ((w : Weak) → IsWeakRun program labels w → HoldsWithin w u)
-      → (u.failing ≡ true → aside u.certificate.number ≡ false) → ((i : ℕ) → aside i ≡ true → later i ≡ true) → (u.failing ≡ true → later u.certificate.number ≡ true)
+      → (u.failing ≡ true → aside u.certificate.number ≡ false) → ((i : ℕ) → aside i ≡ true → later i ≡ true)
+      → (u.failing ≡ true → later u.certificate.number ≡ true)
       → AreKept program labels later (ts ++ u ∷ [])
   kept-try u later last holds free grows put = record {
     order = order-more 0 (length labels) ts u (omega arith) last kept.order;
@@ -117,6 +122,7 @@ module _ (program : Tree) (labels : List Label) (aside : ℕ → Bool) (ts : Lis
       apart t (inl is) other same = absurd (false-true (aside u.certificate.number) (ap aside (sym same) ∙ is) (free other))
       apart t (inr change) other same = subst (λ ls. HasChange (drop t.after ls)) (sym whole) change
 
-      still : (t : Try) → (aside t.certificate.number ≡ true) ⊎ HasChange (drop t.after labels) → (later t.certificate.number ≡ true) ⊎ HasChange (drop t.after labels)
+      still : (t : Try) → (aside t.certificate.number ≡ true) ⊎ HasChange (drop t.after labels)
+          → (later t.certificate.number ≡ true) ⊎ HasChange (drop t.after labels)
       still t (inl is) = inl (grows t.certificate.number is)
       still t (inr change) = inr change

@@ -1,5 +1,6 @@
 -- A weak run goes on by a label.
-use Rattle.std.proofs.Common.{◌≡◌, ℕ, ◌+◌, ◌≤◌, ◌++◌, max, Bool, true, false, List, [], ◌∷◌, length, take, Option, Some, None, is_none, option_and_then, if◌then◌else◌, refl, sym, ap, ◌∙◌, subst, arith, length-append}
+use Rattle.std.proofs.Common.{◌≡◌, ℕ, ◌+◌, ◌≤◌, ◌++◌, max, Bool, true, false, List, [], ◌∷◌, length, take, Option, Some, None, is_none}
+use Rattle.std.proofs.Common.{option_and_then, if◌then◌else◌, refl, sym, ap, ◌∙◌, subst, arith, length-append}
 use Rattle.std.proofs.lemmas.List.{take_all, take-append-le}
 use Rattle.std.proofs.lemmas.Option.{option_and_then_some}
 use Rattle.ame_term.specs.Tree.{Tree}
@@ -34,7 +35,8 @@ played-begun program labels w none is = record {
   here = λ idle. ap length (sym none);
 }
 
-pub within-more : (w v : Weak) (xs : List Label) (y : Label) → AreWithinBounds w xs → weak_run w xs ≡ Some v → IsWithinBounds v y → AreWithinBounds w (xs ++ y ∷ [])
+pub within-more : (w v : Weak) (xs : List Label) (y : Label) → AreWithinBounds w xs → weak_run w xs ≡ Some v
+    → IsWithinBounds v y → AreWithinBounds w (xs ++ y ∷ [])
 within-more w v [] y all e within = let same : w ≡ v = cc in (subst (λ z. IsWithinBounds z y) (sym same) within, λ u first. tt)
 within-more w v (x ∷ xs) y all e within = (all.0, λ u first. within-more u v xs y (all.1 u first) (sym (ap (option_and_then (λ z. weak_run z xs)) first) ∙ e) within)
 

@@ -1,5 +1,6 @@
 -- A run goes on by a label, a try or the beginning of a fragment.
-use Rattle.std.proofs.Common.{◌≡◌, ℕ, suc, ◌+◌, ◌≤◌, ◌++◌, ◌⊎◌, inl, inr, max, Bool, true, false, List, [], ◌∷◌, length, Result, Ok, Err, is_none, if◌then◌else◌, refl, sym, ap, ◌∙◌, subst, arith, length-append}
+use Rattle.std.proofs.Common.{◌≡◌, ℕ, suc, ◌+◌, ◌≤◌, ◌++◌, ◌⊎◌, inl, inr, max, Bool, true, false, List, [], ◌∷◌, length, Result, Ok, Err, is_none}
+use Rattle.std.proofs.Common.{if◌then◌else◌, refl, sym, ap, ◌∙◌, subst, arith, length-append}
 use Rattle.std.specs.Prelude.{OnOk, OnErr}
 use Rattle.std.specs.List.{AllByRecursion}
 use Rattle.ame_term.specs.Tree.{Tree}
@@ -8,7 +9,8 @@ use Rattle.ame_weak.specs.declared.tries.Try.{Try}
 use Rattle.ame_runner.specs.Labels.{label_location, behind_location, location_above}
 use Rattle.ame_runner.specs.Play.{PlayView, IsPlayedWeakly, begun_play}
 use Rattle.ame_runner.specs.Notes.{lets_try_again, IsAsideSince, AreKept}
-use Rattle.ame_runner.specs.Run.{CourseView, turns_of_tries, IsOwn, AreSettled, AreFailedTries, CutAt, IsRunning, CanBeEnded, KeepsFrame, HasMadeUncounted, RunsOrEnds}
+use Rattle.ame_runner.specs.Run.{CourseView, turns_of_tries, IsOwn, AreSettled, AreFailedTries, CutAt, IsRunning, CanBeEnded, KeepsFrame}
+use Rattle.ame_runner.specs.Run.{HasMadeUncounted, RunsOrEnds}
 use Rattle.ame_runner.proofs.NoteLemmas.{all-with, kept-label}
 
 -- the try that was cut off was made where nothing was active
@@ -120,7 +122,8 @@ ended-before s r ls y is =
     record { played = e.played; kept = e.kept; settled = e.settled; few = e.few; cut = e.cut }
 
 -- before the first label
-pub running-begun : (r : CourseView) (program : Tree) → IsPlayedWeakly r.play → r.play ≡ begun_play program → r.tries ≡ [] → r.left ≡ [] → r.above ≡ 0 → r.turns ≡ 0 → IsRunning r
+pub running-begun : (r : CourseView) (program : Tree) → IsPlayedWeakly r.play → r.play ≡ begun_play program
+    → r.tries ≡ [] → r.left ≡ [] → r.above ≡ 0 → r.turns ≡ 0 → IsRunning r
 running-begun r program played begun tries left above turns = record {
   played = played;
   kept = subst (λ (ts : List Try). AreKept r.play.program r.play.labels r.aside ts) (sym tries) (record { order = tt; hold = tt; spaced = tt; put = tt });

@@ -38,7 +38,8 @@ trial-more w i first v kinds above later more next_above t g = record {
       (subst (λ ls. AreNext first ls next_above) (sym (made-more kinds g.kind)) (next-more first (made_by kinds) (fresh_of g.kind) above next_above t.made g.made));
 }
 
-pub longer : (v : Weak) (kinds : List StepKind) (above : ℕ) (later : Weak) (more : List StepKind) (next_above : ℕ) → HasTriedOn v kinds above later more next_above
+pub longer : (v : Weak) (kinds : List StepKind) (above : ℕ) (later : Weak) (more : List StepKind) (next_above : ℕ)
+    → HasTriedOn v kinds above later more next_above
     → length more ≡ length kinds + 1
 longer v kinds above later more next_above g = ap length g.added ∙ length-append kinds (g.kind ∷ [])
 
@@ -61,7 +62,8 @@ module _ (w : Weak) (i first turns : ℕ) (v : Weak) (kinds : List StepKind) (ab
   long = ap length same
 
   -- a fragment that has come to its end in time
-  pub tried-decided : (used : ℕ) → IsDecided a.outcome → length kinds + 1 ≡ used → used < turns → a.turns ≡ used + last_turn a.outcome → IsTriedOut w i first turns a
+  pub tried-decided : (used : ℕ) → IsDecided a.outcome → length kinds + 1 ≡ used → used < turns
+      → a.turns ≡ used + last_turn a.outcome → IsTriedOut w i first turns a
   tried-decided used decided count more took = record {
     behind = v;
     is = trial;
@@ -82,7 +84,8 @@ module _ (w : Weak) (i first turns : ℕ) (v : Weak) (kinds : List StepKind) (ab
     used = λ cut. took;
   }
 
-pub ended-last : {E : Type 0} (w : Weak) (i first turns : ℕ) (v : Weak) (kinds : List StepKind) (above : ℕ) (a : Result TriedOut E) → IsTrial w i first v kinds above
+pub ended-last : {E : Type 0} (w : Weak) (i first turns : ℕ) (v : Weak) (kinds : List StepKind) (above : ℕ) (a : Result TriedOut E)
+    → IsTrial w i first v kinds above
     → length kinds + 1 ≡ turns → IfOk a (IsEndedAtLast v kinds above turns) → IfOk a (IsTriedOut w i first turns)
 ended-last w i first turns v kinds above (Ok a) t all ended = tried-last w i first turns v kinds above a t ended.made ended.up ended.comes ended.last all ended.took
 ended-last w i first turns v kinds above (Err e) t all ended = tt

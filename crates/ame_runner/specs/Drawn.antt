@@ -123,7 +123,7 @@ RestsWith (WeakStop.Blocked certificates) c = (pool c.play.weak.state ≢ []) ×
 RestsWith WeakStop.Spent c = MayGoOn c × (c.turns ≡ c.limit)
 RestsWith _ c = ⊥
 
--- an attempt comes to a value that would be too high, and its turns are counted
+-- an attempt comes to a value that would be nested too deeply, and its turns are counted
 pub record GrowsInAttempt (i : ℕ) (c : CourseView) (turns : ℕ) (entry : Entry) : Type 0 where
   pub tried : TriedOut
   pub attempt : IsAttempt i c tried

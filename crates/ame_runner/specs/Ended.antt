@@ -38,7 +38,7 @@ pub record IsWeakRunOf (program : Tree) (limit : ℕ) (labels : List Label) (tri
   pub last : EndTries stop (length labels) tries
   pub spaced : AreSpaced labels tries
 
--- the note of the member that came to a value that is too high, if that stopped the run
+-- the note of the member that came to a value nested too deeply, if that stopped the run
 abbrev pub notes_of_stop : WeakStop → List Entry
 notes_of_stop (WeakStop.Tall entry) = entry ∷ []
 notes_of_stop _ = []
@@ -53,7 +53,7 @@ pub record IsWholeRun (program : Tree) (labels : List Label) (tries : List Try) 
   pub heard : HaveHeard program (straight labels) before after
   pub paid : turns ≤ 3 * total_steps (journal_of_run labels tries stop)
 
--- The turns are the labels and the turns of the tries, and those of the attempt that came to a value that is too high, if the run stopped in one.
+-- The turns are the labels and the turns of the tries, and those of the attempt that came to a value nested too deeply, if the run stopped in one.
 abbrev pub IsCounted : WeakStop → ℕ → ℕ → Type 0
 IsCounted (WeakStop.Tall entry) n turns = (turns ≡ n) ⊎ (turns ≡ n + (entry.steps + 1))
 IsCounted _ n turns = turns ≡ n

@@ -99,7 +99,7 @@ pub record HasCertified (r : CourseView) (number : ℕ) (old new : List Certific
   pub others : (i : ℕ) → list_any (λ c. c.number == i) old ≡ true → list_any (λ c. c.number == i) new ≡ true
   pub numbers : (certified_numbers new ≡ certified_numbers old) ⊎ (certified_numbers new ≡ certified_numbers old ++ number ∷ [])
 
--- A member came to a value that is too high. The run is under way but for the turns of the attempt in which that happened, if there was one.
+-- A member came to a value nested too deeply. The run is under way but for the turns of the attempt in which that happened, if there was one.
 pub record HasGrown (entry : Entry) (r : CourseView) : Type 0 where
   pub turns : ℕ
   pub before : IsRunning (record r { turns = turns })
@@ -111,7 +111,7 @@ abbrev pub RunsUntil : Option WeakStop → CourseView → Type 0
 RunsUntil (Some (WeakStop.Tall entry)) r = HasGrown entry r
 RunsUntil _ r = IsRunning r
 
--- a member came to a value that is too high, which stops the run, or the run is out of memory
+-- a member came to a value nested too deeply, which stops the run, or the run is out of memory
 abbrev pub GrowsOrEnds : {E : Type 0} → Result Entry E → CourseView → Type 0
 GrowsOrEnds (Ok entry) r = HasGrown entry r × HasStoppedWeakly (WeakStop.Tall entry) r
 GrowsOrEnds (Err e) r = CanBeEnded r

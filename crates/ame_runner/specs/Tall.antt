@@ -1,4 +1,4 @@
--- A member that is about to become a value that is too high.
+-- A member that is about to become a value nested too deeply.
 use Rattle.std.specs.Prelude.{◌≡◌, ℕ, true, List, length, None}
 use Rattle.ame_term.specs.State.{State}
 use Rattle.ame_journal.specs.declared.entry.Entry.{Entry}

@@ -37,7 +37,7 @@ pub record HasTriedOn (v : Weak) (kinds : List StepKind) (above : ℕ) (later : 
   pub added : more ≡ kinds ++ kind ∷ []
   pub made : AreNext above (fresh_of kind) next_above
 
--- neither is the next condition false, nor would the next value be too high
+-- neither is the next condition false, nor would the next value be nested too deeply
 abbrev pub MayStep : Weak → Type 0
 MayStep v = (next_of v.state None ≢ next.Stuck) × (is_growing_tall v None ≡ false)
 

@@ -157,7 +157,7 @@ impl<'a> Run<'a> {
         self.go_on(alloc)
     }
 
-    /// Makes a step of a member under `unprotected`, or stops the run if the step would make a value that is too high.
+    /// Makes a step of a member under `unprotected`, or stops the run if the step would make a value nested too deeply.
     fn go_free<D: Device>(
         &mut self,
         alloc: Global,
@@ -179,7 +179,7 @@ impl<'a> Run<'a> {
         self.free_or_fault(alloc, number, devices)
     }
 
-    /// Runs the active fragment to its end, and returns the note of a member that is about to become a value that is too high.
+    /// Runs the active fragment to its end, and returns the note of a member that is about to become a value nested too deeply.
     fn end_tall(&mut self, alloc: Global, number: u64) -> Result<Entry, NoMemory>
         ensures frame { KeepsFrame (run_of self.old) (run_of self.new) }
         ensures runs { IsRunning (run_of self.old) → GrowsOrEnds result (run_of self.new) }
@@ -198,7 +198,7 @@ impl<'a> Run<'a> {
         Err(NoMemory)
     }
 
-    /// Returns whether a member of the pool is about to become a value that is too high, under `unprotected`.
+    /// Returns whether a member of the pool is about to become a value nested too deeply, under `unprotected`.
     fn is_growing(&self, alloc: Global, number: u64) -> Result<bool, NoMemory>
         ensures { IfOk result (λ grows. grows ≡ is_growing_tall (run_of self.now).play.weak (Some number)) }
     {

@@ -111,7 +111,7 @@ impl<'a> Run<'a> {
     }
 
     /// Tries a member that may become active. If it leaves or ends, its labels are planned. If it comes to a value that is
-    /// too high, this returns the note about that. Otherwise the try is noted.
+    /// nested too deeply, this returns the note about that. Otherwise the try is noted.
     pub(crate) fn attempt(&mut self, alloc: Global, number: u64) -> Result<Option<Entry>, NoMemory>
         requires idle { (run_of self.old).play.weak.state.active ≡ None }
         requires turns { (run_of self.old).turns < (run_of self.old).limit }
@@ -155,7 +155,7 @@ impl<'a> Run<'a> {
         }
     }
 
-    /// Counts the turns of a fragment that came to a value that is too high, and returns the note about it.
+    /// Counts the turns of a fragment that came to a value nested too deeply, and returns the note about it.
     fn grow(&mut self, alloc: Global, number: u64, tried: &TriedOut) -> Result<Entry, NoMemory>
         requires idle { (run_of self.old).play.weak.state.active ≡ None }
         requires tried { IsTriedOut (run_of self.old).play.weak number (run_of self.old).above ((run_of self.old).limit - (run_of self.old).turns) tried.now }

@@ -25,7 +25,7 @@ waits_for_check (Some (wants.Alloc sort number)) = true
 waits_for_check (Some wants.OutOfFuel) = true
 waits_for_check _ = false
 
--- whether a machine is handed in at its turn: its fragment is over, or it is inside, and doesn't come to a value that is too high
+-- whether a machine is handed in at its turn: its fragment is over, or it is inside, and doesn't come to a value nested too deeply
 abbrev pub is_handed_in : Wants → Bool → Bool
 is_handed_in wants.Tall inside = false
 is_handed_in wants.Done inside = true

@@ -1,4 +1,4 @@
--- Events whose steps are at no form that would become a value that is too high.
+-- Events whose steps are at no form that would become a value nested too deeply.
 use Rattle.std.specs.Prelude.{ℕ, List, [], ◌∷◌, ⊤}
 use Rattle.ame_term.specs.Frame.{Side}
 use Rattle.ame_machine.specs.Run.Local.{begun_with}

@@ -48,7 +48,7 @@ pub record EndsAs {V : Type 0} (value : V → Val) (s : EngineState) (end : End 
   pub certificates : s.certificates ≡ end.certificates
 
 -- Events led from a start to this end, each when it may come, and what they add to the journal are the entries of the end. None of their
--- steps was at a form that would become a value that is too high.
+-- steps was at a form that would become a value nested too deeply.
 pub record IsRanBy (program : Tree) (signature : Signature) (limits : Limits) (base : List Entry) {V : Type 0} (value : V → Val) (end : End V) : Type 0 where
   pub start : EngineState
   pub starts : IsStart program signature limits base start

@@ -61,7 +61,7 @@ module _ {C V M : Type 0} (program : C → Tree) where
 
 module _ {C V M : Type 0} (meaning : Meaning C V M) where
   -- Events led to an engine from a state from which a run may go on from the base, each when it may come. None of their steps was at
-  -- a form that would become a value that is too high.
+  -- a form that would become a value nested too deeply.
   pub record HasRun (opening : Opening C) (core : Core C V M) : Type 0 where
     pub start : EngineState
     pub starts : IsStart (meaning.program opening.code) (meaning.signature opening.code) opening.limits opening.base start

@@ -26,7 +26,7 @@ module _ {C V M : Type 0} where
 
 module _ {C V M : Type 0} (meaning : Meaning C V M) where
   -- A machine stands on the run of its seat, and has made no more steps than its slice since it was checked. None of its steps
-  -- was at a form that would become a value that is too high.
+  -- was at a form that would become a value nested too deeply.
   pub record IsAtWork (core : Core C V M) (seat : ℕ) (m : M) : Type 0 where
     pub on : IsOn meaning core seat m
     pub within : (meaning.stage core.code m).since ≤ core.limits.slice

@@ -82,7 +82,7 @@ where
     }
 }
 
-/// Notes that the member of a seat came to a value that is too high. Otherwise the seat turns back.
+/// Notes that the member of a seat came to a value nested too deeply. Otherwise the seat turns back.
 pub(crate) fn tall_on<M: Runner>(engine: &mut Engine<M>, seat: u32, machine: &M) -> Outcome
 where
     M::Code: Drop,

@@ -41,7 +41,7 @@ pub enum Outcome {
     Noted,
     /// It was to note such a condition, and this read isn't valid any more, so that it turned back.
     NotNoted(Bad),
-    /// Its member came to a value that is too high, and that stop is kept.
+    /// Its member came to a value nested too deeply, and that stop is kept.
     GrewTall,
     /// It was to note such a value, and this read isn't valid any more, so that it turned back.
     NotTall(Bad),

@@ -8,7 +8,7 @@ use Rattle.ame_shell.specs.Low.{MachineGoesLow}
 use Rattle.ame_shell.specs.Ready.{IsReady}
 
 -- A seat's machine is prepared. It stands on the seat's run, within its slice, and is ready for its turn. It wants what it needs there.
--- No step of the run was at a form that would become a value that is too high.
+-- No step of the run was at a form that would become a value nested too deeply.
 pub record IsPreparedStage (parts : Parts) (seat : ℕ) (s : MachineView) : Type 0 where
   pub stands : IsOnSeat parts seat s
   pub within : s.since ≤ parts.limits.slice

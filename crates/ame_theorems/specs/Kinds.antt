@@ -37,7 +37,7 @@ abbrev pub is_alloc : Event → Bool
 is_alloc (Event.Alloc seat sort ty v) = true
 is_alloc _ = false
 
--- Returns whether the question was asked at a commit, at a false condition, or at a value that is too high.
+-- Returns whether the question was asked at a commit, at a false condition, or at a value nested too deeply.
 abbrev pub is_at_commit : Find → Bool
 is_at_commit Find.Commit = true
 is_at_commit _ = false
@@ -61,7 +61,7 @@ faults_at (Some (Stop.DeviceFault device)) = 1
 faults_at _ = 0
 
 -- Each visit left an entry. If the stop is a device's fault, one visit more was counted, and left none. Each commit, note and value that
--- was too high left an entry, unless it was refused because a read wasn't valid. Each cell was made by an event of its own.
+-- was nested too deeply left an entry, unless it was refused because a read wasn't valid. Each cell was made by an event of its own.
 pub record CountsByKind (events : List Event) (entries : List Entry) (counters : Counters) (stop : Option Stop) : Type 0 where
   pub frees : counters.frees ≡ entries_of is_free entries + faults_at stop
   pub faults : count_by is_fault events ≡ faults_at stop

@@ -18,7 +18,7 @@ ghost use Rattle.ame_theorems.specs.Stopped.{IsStoppedBy};
 use ame_machine::Runner;
 
 /// Says that the counters of a run that is over count its entries by their kinds. The visits are the `Free` entries, and one more if the
-/// run stopped at a device's fault. Each commit, each false condition and each value that was too high left an entry, unless it was
+/// run stopped at a device's fault. Each commit, each false condition and each value nested too deeply left an entry, unless it was
 /// refused because a read wasn't valid.
 pub fn counters_tell_entries<M: Runner>()
     ensures { (since : List Entry) (program : Tree) (signature : Signature) (limits : Limits) (value : M.Value → Val) (before after : Ends) (end : End M.Value)

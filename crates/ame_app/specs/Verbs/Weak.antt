@@ -29,20 +29,20 @@ use Rattle.ame_cli.specs.declared.command.Options.{Options}
 use Rattle.ame_app.specs.declared.run_result.RunResult.{RunResult}
 use Rattle.ame_app.specs.declared.run_result.WeakEnd.{WeakEnd}
 
--- What is run
+-- The run
 
 -- one seat, with these turns
 abbrev pub alone_with : ℕ → Options
 alone_with turns = record { workers = 1; turns = turns; slice = default_of Slice }
 
--- A note at the end of a journal says that a member is about to become a value that is too high in this state, at once or by steps within the
+-- A note at the end of a journal says that a member is about to become a value nested too deeply in this state, at once or by steps within the
 -- bounds.
 abbrev pub IsNoteAtEnd : Option Entry → Weak → Type 0
 IsNoteAtEnd None w = ⊤
 IsNoteAtEnd (Some entry) w = IsTallIn w.state entry × IsReachedWithin w entry
 
 -- Labels are those of a weak run that ends with nothing active, and tries hold at their places; all steps are within the bounds. Entries are the
--- journal of the labels with notes of the tries, and with the note about a value that would be too high, if that stopped the run.
+-- journal of the labels with notes of the tries, and with the note about a value that would be nested too deeply, if that stopped the run.
 pub record IsWeakJournal (program : Tree) (labels : List Label) (tries : List Try) (entries : List Entry) : Type 0 where
   pub weak : Weak
   pub leads : IsWeakRun program labels weak
@@ -54,7 +54,7 @@ pub record IsWeakJournal (program : Tree) (labels : List Label) (tries : List Tr
   pub entries_are : entries ≡ straight_with 0 tries outset labels ++ option_to_list last
   pub grows : IsNoteAtEnd last weak
 
--- What is told
+-- The report
 
 -- a stop of a weak run, as a stop of an engine
 abbrev pub stop_told : WeakStop → Stop

@@ -85,7 +85,7 @@ fn told_of(
     }
 }
 
-/// What the state to which a journal leads has stored and printed.
+/// The store and the output of the state to which a journal leads.
 struct Rest {
     store: Store<Val>,
     output: Vec<i64>,
@@ -154,7 +154,7 @@ fn straightened(
     })
 }
 
-/// Returns the end of a weak run of which, when out of memory, only the turns are known.
+/// Returns the end of a weak run that ran out of memory, so that only its turns are known.
 fn untold(alloc: Global, code: &Arc<Code>, limit: u32, turns: u32) -> WeakEnd
     ensures tells { (before after : List Told) → length after ≡ length before
         → TellsWeakly (program_of (arc_value code.now)) limit result before after }

@@ -30,7 +30,7 @@ where
     M::Code: Drop,
 {
     /// Returns the locations that a seat owns, in rising order, if a member may watch one. Otherwise returns none, which takes no memory:
-    /// a commit then wakes nobody.
+    /// a commit then wakes no member.
     fn to_wake(&self, seat: u32) -> Result<Vec<Loc>, NoMemory>
         requires { seat < length self.now.memory.rows }
         ensures { IfOk result (λ locs. woken_for (map (λ l. l.0) locs.items) self.now.pool

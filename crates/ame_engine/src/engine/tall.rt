@@ -1,4 +1,4 @@
-//! Notes of members that came to a value that is too high.
+//! Notes of members that came to a value nested too deeply.
 
 ghost use Rattle.std.specs.Prelude.{◌≡◌, ◌<◌, ◌↔◌, IfOk, OnOk, OnErr, Ok, Some, None};
 ghost use Rattle.ame_rows.specs.declared.notes.Bad.{Bad};
@@ -51,7 +51,7 @@ where
         Ok(())
     }
 
-    /// Notes the row of a seat whose machine's next value would be too high, and keeps that stop with the member's number. If a read isn't
+    /// Notes the row of a seat whose machine's next value would be nested too deeply, and keeps that stop with the member's number. If a read isn't
     /// valid the seat turns back instead. Counts a turn. Takes memory only if all reads are valid, and all of it before the first change.
     pub fn tall(&mut self, seat: u32, at: &M) -> Result<Noted, NoMemory>
         requires on { IsOn M.meaning self.old seat at.now }

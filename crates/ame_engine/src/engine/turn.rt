@@ -23,7 +23,7 @@ pub(crate) enum Setback {
     Commit,
     /// One of its reads isn't valid, though its member came to a condition that is false.
     Block,
-    /// One of its reads isn't valid, though its next value would be too high.
+    /// One of its reads isn't valid, though its next value would be nested too deeply.
     Tall,
 }
 

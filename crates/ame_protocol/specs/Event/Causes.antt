@@ -41,7 +41,7 @@ is_from_outside Stop.NoMemory = true
 is_from_outside Stop.WriteFault = true
 is_from_outside _ = false
 
--- Returns whether only an event of a seat keeps this stop: the event of a value that is too high, or of a device that fails.
+-- Returns whether only an event of a seat keeps this stop: the event of a value nested too deeply, or of a device that fails.
 abbrev pub only_seats_keep : Stop → Bool
 only_seats_keep (Stop.Tall number) = true
 only_seats_keep (Stop.DeviceFault device) = true
@@ -82,12 +82,12 @@ pub record EndsWith (kind : EntryKind) (entries : List Entry) : Type 0 where
   pub its : note.kind ≡ kind
   pub others : AreOrdinary earlier
 
--- The last entry notes that a member came to a value that is too high.
+-- The last entry notes that a member came to a value nested too deeply.
 pub record IsTall (number : ℕ) (entries : List Entry) : Type 0 where
   pub ends : EndsWith EntryKind.Tall entries
   pub its : ends.note.number ≡ number
 
--- If a row was cut off, its note is the last entry. If a value would be too high, its note is the last entry.
+-- If a row was cut off, its note is the last entry. If a value would be nested too deeply, its note is the last entry.
 abbrev pub NotesStop : Option Stop → List Entry → Type 0
 NotesStop (Some Stop.Spent) entries = AreOrdinary entries ⊎ EndsWith EntryKind.Cut entries
 NotesStop (Some (Stop.Tall number)) entries = IsTall number entries

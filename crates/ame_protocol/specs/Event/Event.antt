@@ -9,7 +9,7 @@ use Rattle.ame_rows.specs.MemoryView.{MemoryView}
 use Rattle.ame_protocol.specs.declared.types.Attempt.{Attempt}
 use Rattle.ame_protocol.specs.declared.stop.Stop.{Stop}
 
--- A seat finds that one of its reads isn't valid after a full slice, at an end, at a false condition, or at a value that is too high.
+-- A seat finds that one of its reads isn't valid after a full slice, at an end, at a false condition, or at a value nested too deeply.
 pub data Find : Type 0 where
   Check : Find
   Commit : Find
@@ -48,7 +48,7 @@ pub data Event : Type 0 where
   Home : (seat : ℕ) (attempt : Attempt) → Event
   -- the turns are used up, and the place of the row is noted
   Cut : (seat : ℕ) (attempt : Attempt) (steps : ℕ) (place : LocalState) → Event
-  -- the next value of the run would be too high, and its place is noted
+  -- the next value of the run would be nested too deeply, and its place is noted
   Tall : (seat : ℕ) (attempt : Attempt) (steps : ℕ) (place : LocalState) → Event
   -- the runtime keeps a stop without an entry
   Halt : (why : Stop) → Event

@@ -45,6 +45,6 @@ with_note kind seat number steps p task parts =
 abbrev pub has_been_cut : ℕ → ℕ → ℕ → LocalState → Task → Parts → Parts
 has_been_cut seat number steps p task parts = has_stopped (with_note EntryKind.Cut seat number steps p task parts)
 
--- the next value of the row would be too high
+-- the next value of the row would be nested too deeply
 abbrev pub has_grown_tall : ℕ → ℕ → ℕ → LocalState → Task → Parts → Parts
 has_grown_tall seat number steps p task parts = one_turn (has_stopped (with_note EntryKind.Tall seat number steps p task parts))

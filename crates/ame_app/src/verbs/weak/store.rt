@@ -45,7 +45,7 @@ fn cell_for(
     })
 }
 
-/// Returns the cells of a replay by location, up to its greatest one. Where it has none stands a dead copy of its first. A location that
+/// Returns the cells of a replay by location, up to its greatest one. A location without a cell has a dead copy of the first one. A location that
 /// is too far for a store is answered as out of memory.
 fn cells_of(
     alloc: Global,

@@ -12,7 +12,7 @@ use Rattle.ame_cli.specs.declared.command.Options.{Options}
 use Rattle.ame_cli.specs.declared.command.Command.{Command}
 use Rattle.ame_cli.specs.declared.command.Command.TheVariants.{Run, Bench, Sim, Replay, Check, Resume, Weak}
 use Rattle.ame_cli.specs.Grammar.{Argument, SpellsCommand, given}
-use Rattle.ame_cli.specs.Grammar.Part.{apart, number}
+use Rattle.ame_cli.specs.Grammar.Argument.{apart, number}
 use Rattle.ame_cli.specs.Grammar.SpellsCommand.{verb_first}
 use Rattle.ame_cli.specs.Items.{ArgWord, bounds_of}
 use Rattle.ame_cli.specs.Numbers.{number_within, numbers_within}
